@@ -1,0 +1,9 @@
+pub mod Lanes
+pub mod Words
+pub mod Operations
+pub mod Operands
+pub mod Writing
+pub mod Flags
+pub mod Processor
+pub mod Setups
+pub mod Instruction

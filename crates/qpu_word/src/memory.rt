@@ -1,3 +1,3 @@
 /// Want of memory, the one answer that no clause ties to a cause.
-#[derive(Clone, Copy, Debug, PartialEq, Eq, Hash)]
+#[derive(Clone, Copy, Debug, PartialEq, Eq)]
 pub struct NoMemory;
