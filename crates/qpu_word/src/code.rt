@@ -58,6 +58,15 @@ pub const END_SLOTS: u32 = 2;
 /// Bytes of an instruction word.
 pub const WORD_BYTES: u32 = 8;
 
+/// Rows of the VPM, and words of a row.
+pub const VPM_ROWS: u32 = 64;
+pub const VPM_COLUMNS: u32 = 16;
+
+/// Processors of the machine, and its semaphores with the highest count of one.
+pub const PROCESSORS: u32 = 12;
+pub const SEMAPHORES: u32 = 16;
+pub const SEMAPHORE_MOST: u32 = 15;
+
 /// Words of the longest program.
 pub const PROGRAM_WORDS: u32 = 4096;
 

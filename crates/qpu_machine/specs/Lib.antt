@@ -1,0 +1,5 @@
+pub mod Machine
+pub mod Schedule
+pub mod Ending
+pub mod Trace
+pub mod Serial

@@ -1,0 +1,12 @@
+//! The machine of actors: processors, DMA moves and look-up moves, one step at a time.
+#![tactic(auto)]
+
+mod actor;
+mod conclusion;
+mod journal;
+mod start;
+
+pub use actor::Actor;
+pub use conclusion::Ending;
+pub use journal::Run;
+pub use start::Start;

@@ -1,0 +1,2 @@
+pub mod SharedState
+pub mod Instruction

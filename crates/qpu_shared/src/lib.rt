@@ -1,0 +1,7 @@
+//! What the processors share: memory, the VPM, the mutex, the semaphores, and what each processor
+//! has pending there.
+#![tactic(auto)]
+
+mod cause;
+
+pub use cause::Cause;
