@@ -1,11 +1,15 @@
 -- What a source shows of itself, and what one read or a whole reading does to it.
-use Rattle.std.specs.Prelude.{◌≡◌, ℕ, ◌<◌, ◌≤◌, List, [], ◌++◌, length, take, drop, Option, IfSome, option_map}
+use Rattle.std.specs.Prelude.{◌≡◌, ℕ, ◌<◌, ◌≤◌, List, [], ◌++◌, length, take, drop, Option, IfSome, option_map, None}
 use Rattle.qpu_io.specs.Faults.{Rose}
 
 -- what a source shows: the bytes left, where it tells them, and its count of faults
 pub record Input : Type 0 where
   pub left : Option (List ℕ)
   pub faults : ℕ
+
+-- what a source shows that tells no bytes: its count of faults
+abbrev pub input_untold : ℕ → Input
+input_untold faults = record { left = None; faults = faults }
 
 -- these bytes were taken from the front of what was left, and no fault came
 pub record Takes (old new : Input) (bytes : List ℕ) : Type 0 where

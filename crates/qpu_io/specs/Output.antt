@@ -1,11 +1,15 @@
 -- What a sink shows of itself, and what one write or the writing of a whole text does to it.
-use Rattle.std.specs.Prelude.{◌≡◌, ℕ, ◌<◌, ◌≤◌, List, ◌++◌, length, take, Option, option_map, Result, Ok, Err}
+use Rattle.std.specs.Prelude.{◌≡◌, ℕ, ◌<◌, ◌≤◌, List, ◌++◌, length, take, Option, option_map, None, Result, Ok, Err}
 use Rattle.qpu_io.specs.Faults.{Rose}
 
 -- what a sink shows: the bytes held, where it tells them, and its count of faults
 pub record Output : Type 0 where
   pub held : Option (List ℕ)
   pub faults : ℕ
+
+-- what a sink shows that tells no bytes: its count of faults
+abbrev pub output_untold : ℕ → Output
+output_untold faults = record { held = None; faults = faults }
 
 -- a sink after these bytes were appended, with no fault
 abbrev pub appended : Output → List ℕ → Output
