@@ -115,15 +115,10 @@ put_loaded f ins p =
 unfoldable pub zn_of : List ℕ → ℕ × ℕ
 zn_of values = (mask (λ i. lane values i == 0), mask (λ i. nat_le (2 ^ 31) (lane values i)))
 
--- a carry, as a test
-abbrev pub carries : Option Bool → Bool
-carries None = false
-carries (Some carry) = carry
-
--- C after the add unit's operation: defined for add and sub alone
-unfoldable pub carry_mask : Option AddOp → (ℕ → ℕ) → (ℕ → ℕ) → Option ℕ
+-- C after the add unit's operation on operands told by the lane: defined for add and sub alone
+abbrev pub carry_mask : Option AddOp → (ℕ → ℕ) → (ℕ → ℕ) → Option ℕ
 carry_mask None a b = None
-carry_mask (Some op) a b = option_map (λ c. mask (λ i. carries (add_carry op (a i) (b i)))) (add_carry op 0 0)
+carry_mask (Some op) a b = option_map (λ carry. mask (λ i. carry (a i) (b i))) (add_carry op)
 
 -- the flags after an instruction: of the add unit where it is active, else of the mul unit; of a
 -- load immediate's lanes; in all lanes, whatever the condition, before rotation and packing

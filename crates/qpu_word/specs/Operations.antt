@@ -46,11 +46,11 @@ add_result Clz a b = count_leading_zeros 32 a
 add_result V8adds a b = of_bytes (λ k. min 255 (byte a k + byte b k))
 add_result V8subs a b = of_bytes (λ k. byte a k - byte b k)
 
--- the carry of add, and the borrow of sub; the other operations have none
-unfoldable pub add_carry : AddOp → ℕ → ℕ → Option Bool
-add_carry Add a b = Some (nat_le (2 ^ 32) (a + b))
-add_carry Sub a b = Some (nat_lt a b)
-add_carry _ a b = None
+-- the carry of an operation on two operands, where it has one: the carry of add, the borrow of sub
+abbrev pub add_carry : AddOp → Option (ℕ → ℕ → Bool)
+add_carry Add = Some (λ a b. nat_le (2 ^ 32) (a + b))
+add_carry Sub = Some (λ a b. nat_lt a b)
+add_carry _ = None
 
 -- the result of the mul unit
 unfoldable pub mul_result : MulOp → ℕ → ℕ → ℕ

@@ -5,6 +5,7 @@
 //! a word alone: its fields. It holds no processor and no memory.
 #![tactic(auto)]
 
+mod byte;
 pub mod code;
 mod fault;
 mod lanes;
@@ -16,11 +17,14 @@ mod state;
 mod traffic;
 mod word;
 
+pub use byte::byte_of;
+pub use byte::number_of;
 pub use fault::FaultKind;
 pub use fault::SetupFault;
 pub use fault::WordFault;
 pub use lanes::LANES;
 pub use lanes::Lanes;
+pub use lanes::with_lane;
 pub use memory::NoMemory;
 pub use operation::AddOp;
 pub use operation::MulOp;

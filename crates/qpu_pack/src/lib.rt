@@ -1,0 +1,17 @@
+//! Packing, unpacking, rotation and small immediates (Guide, "QPU Instruction Encoding"), lane by
+//! lane.
+//!
+//! What the hardware does around the units: on the way in, on the way out, and for the constants
+//! that a word itself holds. It knows no processor.
+#![tactic(auto)]
+
+mod packing;
+mod rotation;
+mod small;
+mod unpacking;
+
+pub use packing::pack_into;
+pub use rotation::rotate;
+pub use small::small_code;
+pub use small::small_value;
+pub use unpacking::unpack;

@@ -1,0 +1,74 @@
+-- Lanes and masks that a loop fills one by one, and what stands in a lane.
+use Rattle.std.proofs.Common.{◌≡◌, ℕ, zero, suc, ◌+◌, ◌*◌, ◌^◌, ◌<◌, ◌≤◌, Bool, true, false, cond, List, length, get_or, refl, ap, sym, ◌∙◌, arith, if◌then◌else◌, map, get_or-set_same, get_or-set_other, below_more}
+use Rattle.std.proofs.Math.ListN.{set, length-set}
+use Rattle.std.specs.List.{range_with_len}
+use Rattle.std.proofs.lemmas.List.FromFn.{fill_by_all, get_or-map-range_with_len, length-map-range_with_len}
+use Rattle.std.proofs.lemmas.List.Edits.{fill_by_more}
+use Rattle.std.proofs.lemmas.Grind.{pow_more}
+use Rattle.qpu_word.specs.Lanes.{lanes, mask_below}
+
+-- sixteen lanes of which the first i are those of a function
+pub record Filled (f : ℕ → ℕ) (xs : List ℕ) (i : ℕ) : Type 0 where
+  pub long : length xs ≡ 16
+  pub each : (k : ℕ) → k < i → get_or xs k 0 ≡ f k
+
+-- one more lane is filled
+pub filled_more : {f : ℕ → ℕ} {xs : List ℕ} {i : ℕ} (v : ℕ) → i < 16 → v ≡ f i → Filled f xs i → Filled f (set xs i v) (i + 1)
+filled_more {f} {xs} {i} v low value before = record {
+  long = length-set xs i v ∙ before.long;
+  each = rw value (fill_by_more f xs i 0 (omega (arith, before.long)) before.each)
+}
+
+-- all lanes are filled
+pub filled_all : {f : ℕ → ℕ} {xs : List ℕ} {i : ℕ} → 16 ≤ i → Filled f xs i → xs ≡ lanes f
+unfolding lanes
+filled_all {f} {xs} {i} high done = fill_by_all f xs 16 0 done.long (λ k low. done.each k (omega arith))
+
+-- a lane of the lanes of a function
+pub get_or-lanes : (f : ℕ → ℕ) (i : ℕ) → i < 16 → get_or (lanes f) i 0 ≡ f i
+unfolding lanes
+get_or-lanes f i low = get_or-map-range_with_len f 0 16 i i 0 low (omega arith)
+
+-- how many lanes there are
+pub length-lanes : (f : ℕ → ℕ) → length (lanes f) ≡ 16
+unfolding lanes
+length-lanes f = length-map-range_with_len f 0 16
+
+-- lanes of functions that agree on sixteen lanes
+pub lanes_same : (f g : ℕ → ℕ) → ((k : ℕ) → k < 16 → f k ≡ g k) → lanes f ≡ lanes g
+lanes_same f g same = filled_all {f = g} {i = 16} (omega arith) (record {
+  long = length-lanes f;
+  each = λ k low. get_or-lanes f k low ∙ same k low
+})
+
+-- a mask of which the lanes below i are told
+pub record IsMask (test : ℕ → Bool) (m i : ℕ) : Type 0 where
+  pub is : m ≡ mask_below test i
+  pub small : m < 2 ^ i
+
+-- no lane is told
+pub mask_none : (test : ℕ → Bool) → IsMask test 0 0
+unfolding mask_below
+mask_none test = record { is = refl; small = omega arith }
+
+mask_step : (test : ℕ → Bool) (m n i : ℕ) (on : Bool) → on ≡ test i → n ≡ m + (if on then 2 ^ i else 0) → m ≡ mask_below test i → n ≡ mask_below test (i + 1)
+unfolding mask_below
+mask_step test m n i on value sum is = let e : i + 1 ≡ suc i = omega arith in rw (e, sum, value, is) refl
+
+mask_small : (m n i : ℕ) (on : Bool) → n ≡ m + (if on then 2 ^ i else 0) → m < 2 ^ i → n < 2 ^ (i + 1)
+mask_small m n i true sum small = omega (arith, pow_more 2 i)
+mask_small m n i false sum small = omega (arith, pow_more 2 i)
+
+-- one more lane is told
+pub mask_more : {test : ℕ → Bool} {m n i : ℕ} (on : Bool) → on ≡ test i → n ≡ m + (if on then 2 ^ i else 0) → IsMask test m i → IsMask test n (i + 1)
+mask_more {test} {m} {n} {i} on value sum before = record {
+  is = mask_step test m n i on value sum before.is;
+  small = mask_small m n i on sum before.small
+}
+
+-- all lanes are told
+pub mask_all : {test : ℕ → Bool} {m i : ℕ} → 16 ≤ i → i ≤ 16 → IsMask test m i → m ≡ mask_below test 16
+mask_all {test} {m} {i} high low before = let e : i ≡ 16 = omega arith in rw e at before.is
+
+-- a mask from the first lane to the last
+pub ruleset masks = (mask_none, mask_more, mask_all)
