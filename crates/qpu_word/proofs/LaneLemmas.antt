@@ -16,7 +16,7 @@ pub record Filled (f : ℕ → ℕ) (xs : List ℕ) (i : ℕ) : Type 0 where
 pub filled_more : {f : ℕ → ℕ} {xs : List ℕ} {i : ℕ} (v : ℕ) → i < 16 → v ≡ f i → Filled f xs i → Filled f (set xs i v) (i + 1)
 filled_more {f} {xs} {i} v low value before = record {
   long = length-set xs i v ∙ before.long;
-  each = rw value (fill_by_more f xs i 0 (omega (arith, before.long)) before.each)
+  each = rw value (fill_by_more f xs i 0 (omega (arith, before.long)) before.each);
 }
 
 -- all lanes are filled
@@ -38,7 +38,7 @@ length-lanes f = length-map-range_with_len f 0 16
 pub lanes_same : (f g : ℕ → ℕ) → ((k : ℕ) → k < 16 → f k ≡ g k) → lanes f ≡ lanes g
 lanes_same f g same = filled_all {f = g} {i = 16} (omega arith) (record {
   long = length-lanes f;
-  each = λ k low. get_or-lanes f k low ∙ same k low
+  each = λ k low. get_or-lanes f k low ∙ same k low;
 })
 
 -- a mask of which the lanes below i are told
@@ -63,7 +63,7 @@ mask_small m n i false sum small = omega (arith, pow_more 2 i)
 pub mask_more : {test : ℕ → Bool} {m n i : ℕ} (on : Bool) → on ≡ test i → n ≡ m + (if on then 2 ^ i else 0) → IsMask test m i → IsMask test n (i + 1)
 mask_more {test} {m} {n} {i} on value sum before = record {
   is = mask_step test m n i on value sum before.is;
-  small = mask_small m n i on sum before.small
+  small = mask_small m n i on sum before.small;
 }
 
 -- all lanes are told

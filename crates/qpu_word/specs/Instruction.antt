@@ -19,11 +19,11 @@ use Rattle.qpu_word.specs.declared.fault.FaultKind.{FaultKind}
 use Rattle.qpu_word.specs.declared.fault.FaultKind.TheVariants.{Branch}
 use Rattle.qpu_word.specs.declared.code.TheConstants.{KIND_LOAD, KIND_LOAD_SIGNED, NOWHERE, BRANCH_SLOTS, END_SLOTS, WORD_BYTES, WRITE_HOST_INT, WRITE_UNIFORMS_ADDRESS, WRITE_VPM, WRITE_VPM_SETUP, WRITE_DMA_ADDRESS, WRITE_TMU0_S, WRITE_TMU1_S}
 use Rattle.qpu_word.specs.Lanes.{lanes, lane, mask}
-use Rattle.qpu_word.specs.Words.{field, fields_of, is_unit_word, is_load, is_branch, is_program_end, is_tmu_load, add_active, mul_active, add_writes, mul_writes, is_exchanged, writes, writes_a, writes_b}
+use Rattle.qpu_word.specs.Words.{writes_link, field, fields_of, is_unit_word, is_load, is_branch, is_program_end, is_tmu_load, add_active, mul_active, add_writes, mul_writes, is_exchanged, writes, writes_a, writes_b}
 use Rattle.qpu_word.specs.Operations.{low32, add_result, add_carry, mul_result, add_op, mul_op}
 use Rattle.qpu_word.specs.Operands.{row_of, operand}
 use Rattle.qpu_word.specs.Flags.{branch_test}
-use Rattle.qpu_word.specs.Writing.{rotation, rotated, unit_written}
+use Rattle.qpu_word.specs.Writing.{rotation, rotated, stored, written}
 use Rattle.qpu_word.specs.Setups.{put_read, put_write}
 use Rattle.qpu_word.specs.Processor.{ProcessorState}
 
@@ -72,17 +72,17 @@ after_slots place = place + 1 + BRANCH_SLOTS
 abbrev pub link_of : ℕ → ℕ
 link_of place = WORD_BYTES * after_slots place
 
--- the values of a load immediate, or the link of a branch
-unfoldable pub plain_values : Fields → ProcessorState → List ℕ
-plain_values f p = lanes (λ i. if is_branch f then link_of p.place else loaded f i)
+-- the values of a load immediate, or the link of a branch at a place
+unfoldable pub plain_values : Fields → ℕ → List ℕ
+plain_values f place = lanes (λ i. if is_branch f then link_of place else loaded f i)
 
 -- what the add unit sends to its address
 unfoldable pub add_sent : Fields → ProcessorState → Ins → List ℕ
-add_sent f p ins = if is_unit_word f then add_values f p ins else plain_values f p
+add_sent f p ins = if is_unit_word f then add_values f p ins else plain_values f p.place
 
 -- what the mul unit sends to its address
 unfoldable pub mul_sent : Fields → ProcessorState → Ins → List ℕ
-mul_sent f p ins = if is_unit_word f then rotated (rotation f p) (mul_values f p ins) else plain_values f p
+mul_sent f p ins = if is_unit_word f then rotated (rotation f p) (mul_values f p ins) else plain_values f p.place
 
 -- registers
 
@@ -90,19 +90,21 @@ mul_sent f p ins = if is_unit_word f then rotated (rotation f p) (mul_values f p
 abbrev pub write_cond : Fields → ℕ → ℕ
 write_cond f cond = if is_branch f then 1 else cond
 
+-- what the add unit leaves at its address
+unfoldable pub add_stored : Fields → ProcessorState → Ins → List ℕ
+add_stored f p ins = stored f p (is_exchanged f) f.waddr_add (write_cond f f.cond_add) (add_sent f p ins)
+
+-- what the mul unit leaves at its address
+unfoldable pub mul_stored : Fields → ProcessorState → Ins → List ℕ
+mul_stored f p ins = stored f p (not (is_exchanged f)) f.waddr_mul (write_cond f f.cond_mul) (mul_sent f p ins)
+
 -- the registers after the add unit's write
-unfoldable pub put_add : Fields → ProcessorState → Ins → ProcessorState → ProcessorState
-put_add f before ins p =
-    if add_writes f then
-      unit_written f before (is_exchanged f) f.waddr_add (write_cond f f.cond_add) (add_sent f before ins) p
-    else p
+unfoldable pub put_add : Fields → List ℕ → ProcessorState → ProcessorState
+put_add f values p = if add_writes f then written (is_exchanged f) f.waddr_add values p else p
 
 -- the registers after the mul unit's write
-unfoldable pub put_mul : Fields → ProcessorState → Ins → ProcessorState → ProcessorState
-put_mul f before ins p =
-    if mul_writes f then
-      unit_written f before (not (is_exchanged f)) f.waddr_mul (write_cond f f.cond_mul) (mul_sent f before ins) p
-    else p
+unfoldable pub put_mul : Fields → List ℕ → ProcessorState → ProcessorState
+put_mul f values p = if mul_writes f then written (not (is_exchanged f)) f.waddr_mul values p else p
 
 -- r4 after a TMU load
 unfoldable pub put_loaded : Fields → Ins → ProcessorState → ProcessorState
@@ -120,15 +122,22 @@ abbrev pub carry_mask : Option AddOp → (ℕ → ℕ) → (ℕ → ℕ) → Opt
 carry_mask None a b = None
 carry_mask (Some op) a b = option_map (λ carry. mask (λ i. carry (a i) (b i))) (add_carry op)
 
+-- C after the add unit's operation
+unfoldable pub add_carries : Fields → ProcessorState → Ins → Option ℕ
+add_carries f p ins = carry_mask (add_op f.op_add) (operand f p ins f.add_a) (operand f p ins f.add_b)
+
+-- the flags after a setting by a list of results and a mask C
+abbrev pub flags_of : List ℕ → Option ℕ → Flags
+flags_of values c = record { zn = Some (zn_of values); c = c }
+
 -- the flags after an instruction: of the add unit where it is active, else of the mul unit; of a
 -- load immediate's lanes; in all lanes, whatever the condition, before rotation and packing
 unfoldable pub flags_after : Fields → ProcessorState → Ins → Flags
 flags_after f p ins =
     if not (f.sf == 1) then p.flags
-    else if add_active f then
-      record { zn = Some (zn_of (add_values f p ins)); c = carry_mask (add_op f.op_add) (operand f p ins f.add_a) (operand f p ins f.add_b) }
-    else if mul_active f then record { zn = Some (zn_of (mul_values f p ins)); c = None }
-    else if is_load f then record { zn = Some (zn_of (lanes (loaded f))); c = None }
+    else if add_active f then flags_of (add_values f p ins) (add_carries f p ins)
+    else if mul_active f then flags_of (mul_values f p ins) None
+    else if is_load f then flags_of (plain_values f p.place) None
     else p.flags
 
 -- control
@@ -141,9 +150,9 @@ is_taken f p = is_branch f && branch_test f.cond_br p.flags
 unfoldable pub target_of : Fields → ProcessorState → ℕ
 target_of f p =
     low32
-      ( f.immediate
-      + (if f.rel == 1 then link_of p.place else 0)
-      + (if f.reg == 1 then lane (row_of p.file_a f.raddr_br) 0 else 0) )
+    (f.immediate
+    + (if f.rel == 1 then link_of p.place else 0)
+    + (if f.reg == 1 then lane (row_of p.file_a f.raddr_br) 0 else 0))
 
 -- a taken register branch whose target isn't 8 times a link point of its program
 unfoldable pub branch_fails : (ℕ → Bool) → Fields → ProcessorState → Bool
@@ -232,7 +241,7 @@ outs_of f p ins = record {
   load_at = first_lane (sent_to_a f p ins WRITE_DMA_ADDRESS);
   store_at = first_lane (sent_to_b f p ins WRITE_DMA_ADDRESS);
   look_unit = (if look_address f == WRITE_TMU1_S then 1 else 0);
-  look = (if look_address f == NOWHERE then None else as_lanes (sent_to f p ins (look_address f)))
+  look = (if look_address f == NOWHERE then None else as_lanes (sent_to f p ins (look_address f)));
 }
 
 -- the book
@@ -266,14 +275,14 @@ after_setups outs book =
 
 -- the processor after an instruction with these reads, which leaves this book
 unfoldable pub done : Fields → ProcessorState → Ins → Book → ProcessorState
-done f p ins book = record (put_loaded f ins (put_mul f p ins (put_add f p ins p))) {
+done f p ins book = record (put_loaded f ins (put_mul f (mul_stored f p ins) (put_add f (add_stored f p ins) p))) {
   flags = flags_after f p ins;
   place = place_after f p;
   rest = rest_after f p;
   book = book;
   executed = p.executed + 1;
   interrupts = p.interrupts + (if writes f WRITE_HOST_INT then 1 else 0);
-  halt = halt_after f p
+  halt = halt_after f p;
 }
 
 -- a processor that faulted at its place
@@ -287,7 +296,7 @@ no_ins = record {
   vpm = record { v = lanes (λ i. 0) };
   load_busy = false;
   store_busy = false;
-  loaded = record { v = lanes (λ i. 0) }
+  loaded = record { v = lanes (λ i. 0) };
 }
 
 -- what a local word makes of its processor, or why it faults
@@ -299,10 +308,6 @@ local_result is_link word p =
     else then_after (after_setups outs p.book) (λ book. Ok (done f p no_ins (after_uniform_to outs.uniform_to book)))
 
 -- the link points of a program
-
--- a branch that writes a link
-abbrev pub writes_link : Fields → Bool
-writes_link f = is_branch f && (add_writes f || mul_writes f)
 
 -- a place of the program is a link point: the word after the slots of a branch that writes a link
 unfoldable pub is_link_point : List ℕ → ℕ → Bool

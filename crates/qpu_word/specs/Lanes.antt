@@ -1,5 +1,5 @@
 -- The sixteen lanes of a value as a list, and masks of lanes. This project's own.
-use Rattle.std.specs.Prelude.{ℕ, zero, suc, ◌+◌, ◌/◌, ◌%◌, ◌^◌, ◌==◌, Bool, List, map, slice_index, if◌then◌else◌}
+use Rattle.std.specs.Prelude.{◌≡◌, ◌<◌, ℕ, zero, suc, ◌+◌, ◌/◌, ◌%◌, ◌^◌, ◌==◌, Bool, List, map, slice_index, if◌then◌else◌}
 use Rattle.std.specs.List.{range_with_len}
 
 -- the sixteen values of a function of the lane
@@ -22,3 +22,7 @@ mask test = mask_below test 16
 -- whether a lane stands in a mask
 abbrev pub in_mask : ℕ → ℕ → Bool
 in_mask m i = m / 2 ^ i % 2 == 1
+
+-- sixteen lanes are those of a function
+pub record Gives (values : List ℕ) (f : ℕ → ℕ) : Type 0 where
+  pub at : (i : ℕ) → i < 16 → lane values i ≡ f i

@@ -5,7 +5,7 @@
 use Rattle.std.specs.Prelude.{ℕ, ◌+◌, ◌-◌, ◌*◌, ◌/◌, ◌%◌, ◌^◌, ◌==◌, Bool, nat_lt, List, [], slice_index, slice_index_or, if◌then◌else◌}
 use Rattle.qpu_word.specs.declared.word.Fields.{Fields}
 use Rattle.qpu_word.specs.declared.traffic.Ins.{Ins}
-use Rattle.qpu_word.specs.declared.code.TheConstants.{ROWS, READ_UNIFORM, READ_NUMBER, READ_VPM, READ_DMA_BUSY, MUX_FILE_A, MUX_FILE_B}
+use Rattle.qpu_word.specs.declared.code.TheConstants.{ROWS, READ_UNIFORM, READ_NUMBER, READ_VPM, READ_DMA_BUSY, ROTATE_BY_R5, MUX_FILE_A, MUX_FILE_B}
 use Rattle.qpu_word.specs.Lanes.{lane}
 use Rattle.qpu_word.specs.Words.{is_small}
 use Rattle.qpu_word.specs.Operations.{byte, of_bytes}
@@ -60,10 +60,14 @@ read_b p ins address i =
     else if address == READ_DMA_BUSY then bit_of ins.store_busy
     else 0
 
+-- the immediate of a small immediate word; the codes that rotate have none
+abbrev pub immediate_of : ℕ → ℕ
+immediate_of code = if nat_lt code ROTATE_BY_R5 then small_value code else 0
+
 -- what a mux gives in a lane: an accumulator, the file A value after unpacking, the file B value,
 -- or the small immediate in its place
 unfoldable pub operand : Fields → ProcessorState → Ins → ℕ → ℕ → ℕ
 operand f p ins mux i =
     if mux == MUX_FILE_A then unpacked f.unpack (read_a p ins f.raddr_a i)
-    else if mux == MUX_FILE_B then (if is_small f then small_value f.raddr_b else read_b p ins f.raddr_b i)
+    else if mux == MUX_FILE_B then (if is_small f then immediate_of f.raddr_b else read_b p ins f.raddr_b i)
     else lane (row_of p.accumulators mux) i

@@ -1,6 +1,6 @@
 -- VideoCore IV 3D Architecture Reference Guide, "VPM and VCD Register Summary": the values of the
 -- setup registers. Their faults, and the queue of two read setups, are this project's own.
-use Rattle.std.specs.Prelude.{ℕ, ◌+◌, ◌%◌, ◌^◌, ◌==◌, not, Option, Some, None, Result, Ok, Err, if◌then◌else◌}
+use Rattle.std.specs.Prelude.{◌≡◌, ℕ, ◌+◌, ◌%◌, ◌^◌, ◌==◌, not, Option, Some, None, Result, Ok, Err, if◌then◌else◌}
 use Rattle.qpu_word.specs.declared.setup.Book.{Book}
 use Rattle.qpu_word.specs.declared.setup.Vectors.{Vectors}
 use Rattle.qpu_word.specs.declared.setup.ReadSetup.{ReadSetup}
@@ -94,3 +94,9 @@ with_vector_written (Some v) book = Ok (record book { writes = Some (record v { 
 -- the book after a VPM write
 unfoldable pub put_vector : Book → Result Book FaultKind
 put_vector book = with_vector_written book.writes book
+
+-- a call that takes a value did what is due: the book is the new one, or the fault is given and
+-- nothing changes
+abbrev pub Puts : {T : Type 0} → Result T FaultKind → Result Book FaultKind → Book → Book → Type 0
+Puts (Ok _) due old new = due ≡ Ok new
+Puts (Err kind) due old new = (due ≡ Err kind) × (new ≡ old)

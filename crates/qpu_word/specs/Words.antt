@@ -39,7 +39,7 @@ fields_of word = record {
   cond_br = field word 52 4;
   rel = field word 51 1;
   reg = field word 50 1;
-  raddr_br = field word 45 5
+  raddr_br = field word 45 5;
 }
 
 -- a number from low to high
@@ -147,6 +147,10 @@ writes_b f address =
 -- a unit writes an address
 abbrev pub writes : Fields → ℕ → Bool
 writes f address = (add_writes f && (f.waddr_add == address)) || (mul_writes f && (f.waddr_mul == address))
+
+-- a branch that writes a link
+abbrev pub writes_link : Fields → Bool
+writes_link f = is_branch f && (add_writes f || mul_writes f)
 
 -- the profile
 

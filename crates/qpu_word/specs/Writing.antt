@@ -15,9 +15,9 @@ use Rattle.qpu_word.specs.Processor.{ProcessorState}
 unfoldable pub rotation : Fields → ProcessorState → ℕ
 rotation f p =
     if is_small f then
-      (if nat_lt f.raddr_b ROTATE_BY_R5 then 0
-       else if f.raddr_b == ROTATE_BY_R5 then lane (row_of p.accumulators 5) 0 % 16
-       else f.raddr_b - ROTATE_BY_R5)
+    (if nat_lt f.raddr_b ROTATE_BY_R5 then 0
+    else if f.raddr_b == ROTATE_BY_R5 then lane (row_of p.accumulators 5) 0 % 16
+    else f.raddr_b - ROTATE_BY_R5)
     else 0
 
 -- rotation by n: lane i of the value goes to lane (i + n) mod 16
@@ -80,8 +80,8 @@ old_at p in_b address =
 unfoldable pub written : Bool → ℕ → List ℕ → ProcessorState → ProcessorState
 written in_b address values p =
     if nat_lt address ROWS then
-      (if in_b then record p { file_b = slice_set p.file_b address values }
-       else record p { file_a = slice_set p.file_a address values })
+    (if in_b then record p { file_b = slice_set p.file_b address values }
+    else record p { file_a = slice_set p.file_a address values })
     else if nat_le address WRITE_R3 then record p { accumulators = slice_set p.accumulators (address - WRITE_R0) values }
     else if address == WRITE_R5 then record p { accumulators = slice_set p.accumulators 5 values }
     else p
@@ -91,9 +91,8 @@ abbrev pub pack_mode : Fields → Bool → ℕ
 pack_mode f in_b = if is_branch f || in_b then 0 else f.pack
 
 -- what a unit leaves at its address of a file, from the processor before the instruction: a row
--- or r0 to r3 by packing and condition, r5 whole; the other addresses act outside the registers
-unfoldable pub unit_written : Fields → ProcessorState → Bool → ℕ → ℕ → List ℕ → ProcessorState → ProcessorState
-unit_written f before in_b address cond values p =
-    if nat_le address WRITE_R3 then
-      written in_b address (left cond before.flags (pack_mode f in_b) (old_at before in_b address) values) p
-    else written in_b address (replicated in_b values) p
+-- or r0 to r3 by packing and condition, r5 whole
+unfoldable pub stored : Fields → ProcessorState → Bool → ℕ → ℕ → List ℕ → List ℕ
+stored f before in_b address cond values =
+    if nat_le address WRITE_R3 then left cond before.flags (pack_mode f in_b) (old_at before in_b address) values
+    else replicated in_b values

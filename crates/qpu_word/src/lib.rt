@@ -5,6 +5,7 @@
 //! a word alone: its fields. It holds no processor and no memory.
 #![tactic(auto)]
 
+mod activity;
 mod byte;
 pub mod code;
 mod fault;
@@ -17,26 +18,13 @@ mod state;
 mod traffic;
 mod word;
 
-pub use byte::byte_of;
-pub use byte::number_of;
-pub use fault::FaultKind;
-pub use fault::SetupFault;
-pub use fault::WordFault;
-pub use lanes::LANES;
-pub use lanes::Lanes;
-pub use lanes::with_lane;
+pub use byte::{byte_of, number_of};
+pub use fault::{FaultKind, SetupFault, WordFault};
+pub use lanes::{LANES, Lanes, with_lane};
 pub use memory::NoMemory;
-pub use operation::AddOp;
-pub use operation::MulOp;
+pub use operation::{AddOp, MulOp};
 pub use program::Program;
-pub use setup::Book;
-pub use setup::ReadSetup;
-pub use setup::Vectors;
-pub use setup::WriteSetup;
-pub use state::Flags;
-pub use state::Halt;
-pub use state::Rest;
-pub use traffic::Ins;
-pub use traffic::Outs;
-pub use word::Fields;
-pub use word::Word;
+pub use setup::{Book, ReadSetup, Vectors, WriteSetup, read_setup, write_setup};
+pub use state::{Flags, Halt, Rest};
+pub use traffic::{Ins, Outs};
+pub use word::{Fields, Word};
