@@ -1,11 +1,12 @@
 -- Lanes and masks that a loop fills one by one, and what stands in a lane.
-use Rattle.std.proofs.Common.{◌≡◌, ℕ, zero, suc, ◌+◌, ◌*◌, ◌^◌, ◌<◌, ◌≤◌, Bool, true, false, cond, List, length, get_or, refl, ap, sym, ◌∙◌, arith, if◌then◌else◌, map, get_or-set_same, get_or-set_other, below_more}
+use Rattle.std.proofs.Common.{◌≡◌, ℕ, zero, suc, ◌+◌, ◌*◌, ◌^◌, ◌<◌, ◌≤◌, Bool, true, false, cond, List, length, get_or, refl, ap, sym, ◌∙◌, arith, if◌then◌else◌, map, get_or-set_same, get_or-set_other, below_more, replicate}
 use Rattle.std.proofs.Math.ListN.{set, length-set}
 use Rattle.std.specs.List.{range_with_len}
 use Rattle.std.proofs.lemmas.List.FromFn.{fill_by_all, get_or-map-range_with_len, length-map-range_with_len}
+use Rattle.std.proofs.lemmas.List.{get_or-replicate}
 use Rattle.std.proofs.lemmas.List.Edits.{fill_by_more}
 use Rattle.std.proofs.lemmas.Grind.{pow_more}
-use Rattle.qpu_word.specs.Lanes.{lanes, mask_below}
+use Rattle.qpu_word.specs.Lanes.{lanes, lane, mask_below, Gives}
 
 -- sixteen lanes of which the first i are those of a function
 pub record Filled (f : ℕ → ℕ) (xs : List ℕ) (i : ℕ) : Type 0 where
@@ -72,3 +73,42 @@ mask_all {test} {m} {i} high low before = let e : i ≡ 16 = omega arith in rw e
 
 -- a mask from the first lane to the last
 pub ruleset masks = (mask_none, mask_more, mask_all)
+
+-- the lanes of a function give it
+pub gives_lanes : {values : List ℕ} (f : ℕ → ℕ) → values ≡ lanes f → Gives values f
+gives_lanes f is = record { at = λ i low. rw is (get_or-lanes f i low) }
+
+-- lanes that a loop filled give the function
+pub filled_gives : {f : ℕ → ℕ} {xs : List ℕ} {i : ℕ} → 16 ≤ i → Filled f xs i → Gives xs f
+filled_gives high done = record { at = λ k low. done.each k (omega arith) }
+
+-- a value gives its own lanes
+pub gives_itself : (values : List ℕ) → Gives values (lane values)
+gives_itself values = record { at = λ i low. refl }
+
+-- one number in all lanes
+pub gives_repeated : (n : ℕ) → Gives (replicate 16 n) (λ i. n)
+gives_repeated n = record { at = λ i low. get_or-replicate 16 i n 0 low }
+
+-- lanes made of a value's lanes
+pub gives_mapped : {xs ys : List ℕ} {f : ℕ → ℕ} (g : ℕ → ℕ) → ys ≡ lanes (λ i. g (lane xs i)) → Gives xs f → Gives ys (λ i. g (f i))
+gives_mapped {xs} {ys} {f} g is gives = record { at = λ i low. (gives_lanes (λ i. g (lane xs i)) is).at i low ∙ ap g (gives.at i low) }
+
+-- lanes made of two values' lanes
+pub lanes_of_two : {xs ys : List ℕ} {f h : ℕ → ℕ} (g : ℕ → ℕ → ℕ) → Gives xs f → Gives ys h → lanes (λ i. g (lane xs i) (lane ys i)) ≡ lanes (λ i. g (f i) (h i))
+lanes_of_two {xs} {ys} {f} {h} g first second =
+    lanes_same (λ i. g (lane xs i) (lane ys i)) (λ i. g (f i) (h i)) (λ k low. rw (first.at k low, second.at k low) refl)
+
+-- masks of tests that agree on the lanes below n
+mask_agree : (s t : ℕ → Bool) (n : ℕ) → ((k : ℕ) → k < n → s k ≡ t k) → mask_below s n ≡ mask_below t n
+unfolding mask_below
+mask_agree s t zero same = refl
+mask_agree s t (suc n) same = rw (mask_agree s t n (λ k low. same k (omega arith)), same n (omega arith)) refl
+
+-- masks of tests that agree on sixteen lanes
+pub mask_same : (s t : ℕ → Bool) → ((k : ℕ) → k < 16 → s k ≡ t k) → mask_below s 16 ≡ mask_below t 16
+mask_same s t same = mask_agree s t 16 same
+
+-- one number in all lanes
+pub lanes_repeated : (n : ℕ) → replicate 16 n ≡ lanes (λ i. n)
+lanes_repeated n = filled_all {f = λ i. n} {i = 16} (omega arith) (record { long = refl; each = λ k low. get_or-replicate 16 k n 0 low })

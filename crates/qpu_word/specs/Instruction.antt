@@ -130,15 +130,24 @@ add_carries f p ins = carry_mask (add_op f.op_add) (operand f p ins f.add_a) (op
 abbrev pub flags_of : List ℕ → Option ℕ → Flags
 flags_of values c = record { zn = Some (zn_of values); c = c }
 
--- the flags after an instruction: of the add unit where it is active, else of the mul unit; of a
--- load immediate's lanes; in all lanes, whatever the condition, before rotation and packing
+-- the flags after both units: of the add unit where it is active, else of the mul unit; in all
+-- lanes, whatever the condition, before rotation and packing
+unfoldable pub unit_flags : Fields → Flags → List ℕ → Option ℕ → List ℕ → Flags
+unit_flags f flags add carries mul =
+    if not (f.sf == 1) then flags
+    else if add_active f then flags_of add carries
+    else if mul_active f then flags_of mul None
+    else flags
+
+-- the flags after a load immediate, of its lanes; branches and semaphore words set none
+unfoldable pub load_flags : Fields → Flags → List ℕ → Flags
+load_flags f flags values = if (f.sf == 1) && is_load f then flags_of values None else flags
+
+-- the flags after an instruction
 unfoldable pub flags_after : Fields → ProcessorState → Ins → Flags
 flags_after f p ins =
-    if not (f.sf == 1) then p.flags
-    else if add_active f then flags_of (add_values f p ins) (add_carries f p ins)
-    else if mul_active f then flags_of (mul_values f p ins) None
-    else if is_load f then flags_of (plain_values f p.place) None
-    else p.flags
+    if is_unit_word f then unit_flags f p.flags (add_values f p ins) (add_carries f p ins) (mul_values f p ins)
+    else load_flags f p.flags (plain_values f p.place)
 
 -- control
 

@@ -5,5 +5,6 @@ pub mod Operands
 pub mod Writing
 pub mod Flags
 pub mod Processor
+pub mod Fit
 pub mod Setups
 pub mod Instruction

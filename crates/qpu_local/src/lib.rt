@@ -1,0 +1,15 @@
+//! One processor: its registers, flags and place, and the instructions that touch it alone.
+//!
+//! `step_local` is one whole local instruction of the written machine. What an instruction reads
+//! from or sends to the shared parts goes through other crates.
+#![tactic(auto)]
+
+mod flagging;
+mod processor;
+mod reading;
+mod sending;
+mod units;
+
+pub use processor::Processor;
+pub use qpu_word::Flags;
+pub use qpu_word::Halt;

@@ -1,0 +1,106 @@
+ghost use Rattle.std.specs.Prelude.{◌≡◌, ◌<◌, if◌then◌else◌};
+ghost use Rattle.qpu_word.specs.Operands.{row_of};
+
+use qpu_word::{Book, Flags, Halt, LANES, Lanes, Rest};
+use std::marker::Model;
+
+/// Rows of a file.
+const ROWS: usize = 32;
+
+/// Accumulators, r0 to r5.
+const ACCUMULATORS: usize = 6;
+
+/// A processor: two files of 32 rows of sixteen lanes, six accumulators, flags, the place of its
+/// next word, its setups and counts. Contracts see it as a `ProcessorState`.
+#[derive(Clone, Copy, Debug)]
+pub struct Processor {
+    pub(crate) q: u32,
+    pub(crate) file_a: [[u32; LANES]; ROWS],
+    pub(crate) file_b: [[u32; LANES]; ROWS],
+    pub(crate) accumulators: [[u32; LANES]; ACCUMULATORS],
+    pub(crate) flags: Flags,
+    pub(crate) place: u32,
+    pub(crate) rest: Rest,
+    pub(crate) book: Book,
+    pub(crate) executed: u32,
+    pub(crate) interrupts: u32,
+    pub(crate) halt: Halt,
+}
+
+impl Model for Processor {
+    ghost use Rattle.qpu_word.specs.Processor.{ProcessorState};
+
+    ghost Value = { ProcessorState };
+
+    ghost use Rattle.qpu_local.specs.Views.{state_of, fields_back, IsCounted};
+
+    ghost view = { state_of };
+
+    ghost invariant = { IsCounted };
+
+    ghost inverse = { fields_back };
+}
+
+impl Processor {
+    /// The number, below 12.
+    pub fn q(&self) -> u32
+        ensures { result ≡ self.now.q }
+    {
+        self.q
+    }
+
+    /// The place of the next word, counted in words from 0.
+    pub fn place(&self) -> u32
+        ensures { result ≡ self.now.place }
+    {
+        self.place
+    }
+
+    /// How many instructions were executed.
+    pub fn executed(&self) -> u32
+        ensures { result ≡ self.now.executed }
+    {
+        self.executed
+    }
+
+    /// How many interrupts of the host were raised.
+    pub fn interrupts(&self) -> u32
+        ensures { result ≡ self.now.interrupts }
+    {
+        self.interrupts
+    }
+
+    /// A row of file A or B, with `at` below 32.
+    pub fn row(&self, file_b: bool, at: u32) -> Lanes
+        requires { at < 32 }
+        ensures { result.v ≡ row_of (if file_b then self.now.file_b else self.now.file_a) at }
+    {
+        if file_b {
+            Lanes { v: self.file_b[at as usize] }
+        } else {
+            Lanes { v: self.file_a[at as usize] }
+        }
+    }
+
+    /// An accumulator, with n below 6: r0 to r5.
+    pub fn accumulator(&self, n: u32) -> Lanes
+        requires { n < 6 }
+        ensures { result.v ≡ row_of self.now.accumulators n }
+    {
+        Lanes { v: self.accumulators[n as usize] }
+    }
+
+    /// The flags as masks, lane i at bit i.
+    pub fn flags(&self) -> Flags
+        ensures { result ≡ self.now.flags }
+    {
+        self.flags
+    }
+
+    /// Whether it goes on, has ended, or faulted and where.
+    pub fn halt(&self) -> Halt
+        ensures { result ≡ self.now.halt }
+    {
+        self.halt
+    }
+}
