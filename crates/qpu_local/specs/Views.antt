@@ -1,5 +1,7 @@
 -- What contracts see of a processor: its state.
-use Rattle.std.specs.Prelude.{ℕ, ◌≤◌}
+use Rattle.std.specs.Prelude.{ℕ, ◌+◌, ◌^◌, ◌<◌, ◌≤◌}
+use Rattle.qpu_word.specs.declared.state.Rest.{Rest}
+use Rattle.qpu_word.specs.declared.state.Rest.TheVariants.{Straight, Ending, To}
 use Rattle.qpu_word.specs.Processor.{ProcessorState}
 use Rattle.qpu_local.specs.declared.processor.Processor.TheInside.{Inside}
 
@@ -35,6 +37,15 @@ fields_back p = record {
   halt = p.halt
 }
 
--- each interrupt was raised by an instruction of its own
-abbrev pub IsCounted : Inside → Type 0
-IsCounted inside = inside.interrupts ≤ inside.executed
+-- the place that a branch in progress goes to, 0 where there is none
+abbrev pub coming_place : Rest → ℕ
+coming_place Straight = 0
+coming_place (Ending n) = 0
+coming_place (To n t) = t
+
+-- each interrupt was raised by an instruction of its own; a place is a branch's target, below
+-- 2^29 words, or a few words behind one
+pub record IsSound (inside : Inside) : Type 0 where
+  pub counted : inside.interrupts ≤ inside.executed
+  pub place : inside.place ≤ 2 ^ 29 + inside.executed
+  pub coming : coming_place inside.rest < 2 ^ 29

@@ -4,10 +4,14 @@
 //! from or sends to the shared parts goes through other crates.
 #![tactic(auto)]
 
+mod control;
 mod flagging;
+mod outs;
 mod processor;
 mod reading;
 mod sending;
+mod stepping;
+mod storing;
 mod units;
 
 pub use processor::Processor;

@@ -32,11 +32,11 @@ impl Model for Processor {
 
     ghost Value = { ProcessorState };
 
-    ghost use Rattle.qpu_local.specs.Views.{state_of, fields_back, IsCounted};
+    ghost use Rattle.qpu_local.specs.Views.{state_of, fields_back, IsSound};
 
     ghost view = { state_of };
 
-    ghost invariant = { IsCounted };
+    ghost invariant = { IsSound };
 
     ghost inverse = { fields_back };
 }

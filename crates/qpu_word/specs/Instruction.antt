@@ -204,54 +204,60 @@ halt_after f p = if is_branch f || is_program_end f then Going else halt_later p
 
 -- what an instruction sends out
 
--- the value sent to an address of either file; the mul unit's stands where both write it
-unfoldable pub sent_to : Fields → ProcessorState → Ins → ℕ → Option (List ℕ)
-sent_to f p ins address =
-    if mul_writes f && (f.waddr_mul == address) then Some (mul_sent f p ins)
-    else if add_writes f && (f.waddr_add == address) then Some (add_sent f p ins)
+-- the value sent to an address of either file, from what the units send; the mul unit's stands
+-- where both write it
+unfoldable pub sent_to : Fields → List ℕ → List ℕ → ℕ → Option (List ℕ)
+sent_to f add mul address =
+    if mul_writes f && (f.waddr_mul == address) then Some mul
+    else if add_writes f && (f.waddr_add == address) then Some add
     else None
 
 -- the value sent to an address of file A
-unfoldable pub sent_to_a : Fields → ProcessorState → Ins → ℕ → Option (List ℕ)
-sent_to_a f p ins address =
-    if writes_a f address then Some (if is_exchanged f then mul_sent f p ins else add_sent f p ins) else None
+unfoldable pub sent_to_a : Fields → List ℕ → List ℕ → ℕ → Option (List ℕ)
+sent_to_a f add mul address = if writes_a f address then Some (if is_exchanged f then mul else add) else None
 
 -- the value sent to an address of file B
-unfoldable pub sent_to_b : Fields → ProcessorState → Ins → ℕ → Option (List ℕ)
-sent_to_b f p ins address =
-    if writes_b f address then Some (if is_exchanged f then add_sent f p ins else mul_sent f p ins) else None
+unfoldable pub sent_to_b : Fields → List ℕ → List ℕ → ℕ → Option (List ℕ)
+sent_to_b f add mul address = if writes_b f address then Some (if is_exchanged f then add else mul) else None
 
 -- a value's lane 0
 abbrev pub first_lane : Option (List ℕ) → Option ℕ
-first_lane sent = option_map (λ values. lane values 0) sent
+first_lane None = None
+first_lane (Some values) = Some (lane values 0)
 
 -- a value as lanes
 abbrev pub as_lanes : Option (List ℕ) → Option Lanes
-as_lanes sent = option_map (λ values. record { v = values }) sent
+as_lanes None = None
+as_lanes (Some values) = Some (record { v = values })
 
 -- an address that issues a look-up
 abbrev pub is_look_address : ℕ → Bool
 is_look_address address = (address == WRITE_TMU0_S) || (address == WRITE_TMU1_S)
 
 -- the address that issues a look-up; the mul unit's stands where both issue one, 39 is none
-abbrev pub look_address : Fields → ℕ
+unfoldable pub look_address : Fields → ℕ
 look_address f =
     if mul_writes f && is_look_address f.waddr_mul then f.waddr_mul
     else if add_writes f && is_look_address f.waddr_add then f.waddr_add
     else NOWHERE
 
--- what an instruction sends to the shared parts, the setups and the uniforms address
-unfoldable pub outs_of : Fields → ProcessorState → Ins → Outs
-outs_of f p ins = record {
-  vpm = as_lanes (sent_to f p ins WRITE_VPM);
-  to_read_setup = first_lane (sent_to_a f p ins WRITE_VPM_SETUP);
-  to_write_setup = first_lane (sent_to_b f p ins WRITE_VPM_SETUP);
-  uniform_to = first_lane (sent_to f p ins WRITE_UNIFORMS_ADDRESS);
-  load_at = first_lane (sent_to_a f p ins WRITE_DMA_ADDRESS);
-  store_at = first_lane (sent_to_b f p ins WRITE_DMA_ADDRESS);
+-- what an instruction sends to the shared parts, the setups and the uniforms address, from what the
+-- units send
+unfoldable pub outs_from : Fields → List ℕ → List ℕ → Outs
+outs_from f add mul = record {
+  vpm = as_lanes (sent_to f add mul WRITE_VPM);
+  to_read_setup = first_lane (sent_to_a f add mul WRITE_VPM_SETUP);
+  to_write_setup = first_lane (sent_to_b f add mul WRITE_VPM_SETUP);
+  uniform_to = first_lane (sent_to f add mul WRITE_UNIFORMS_ADDRESS);
+  load_at = first_lane (sent_to_a f add mul WRITE_DMA_ADDRESS);
+  store_at = first_lane (sent_to_b f add mul WRITE_DMA_ADDRESS);
   look_unit = (if look_address f == WRITE_TMU1_S then 1 else 0);
-  look = (if look_address f == NOWHERE then None else as_lanes (sent_to f p ins (look_address f)));
+  look = as_lanes (sent_to f add mul (look_address f))
 }
+
+-- what an instruction sends out
+abbrev pub outs_of : Fields → ProcessorState → Ins → Outs
+outs_of f p ins = outs_from f (add_sent f p ins) (mul_sent f p ins)
 
 -- the book
 

@@ -1,0 +1,154 @@
+//! What an instruction sends to the shared parts, the setups and the uniforms address.
+ghost use Rattle.std.specs.Prelude.{◌≡◌, ℕ};
+ghost use Rattle.qpu_word.specs.Instruction.{is_look_address, sent_to, sent_to_a, sent_to_b, first_lane, as_lanes, look_address, outs_from, after_read_setup, after_write_setup, after_setups, after_uniform_to};
+
+use qpu_word::code::{
+    NOWHERE, WRITE_DMA_ADDRESS, WRITE_TMU0_S, WRITE_TMU1_S, WRITE_UNIFORMS_ADDRESS, WRITE_VPM,
+    WRITE_VPM_SETUP,
+};
+use qpu_word::{Book, FaultKind, Fields, Lanes, Outs};
+
+use crate::sending::Sent;
+
+/// The value sent to an address of either file.
+#[tactic(auto, unfolding(qpu_word::specs::Instruction::sent_to))]
+fn value_to(f: &Fields, sent: &Sent, address: u32) -> Option<Lanes>
+    ensures { result ≡ as_lanes (sent_to f.now sent.now.add.v sent.now.mul.v address) }
+{
+    if f.mul_writes_to(address) {
+        Some(sent.mul)
+    } else if f.add_writes_to(address) {
+        Some(sent.add)
+    } else {
+        None
+    }
+}
+
+/// Lane 0 of the value sent to an address of either file.
+#[tactic(auto, unfolding(qpu_word::specs::Instruction::sent_to))]
+fn first_to(f: &Fields, sent: &Sent, address: u32) -> Option<u32>
+    ensures { result ≡ first_lane (sent_to f.now sent.now.add.v sent.now.mul.v address) }
+{
+    if f.mul_writes_to(address) {
+        Some(sent.mul.v[0])
+    } else if f.add_writes_to(address) {
+        Some(sent.add.v[0])
+    } else {
+        None
+    }
+}
+
+/// Lane 0 of the value sent to an address of file A.
+#[tactic(auto, unfolding(qpu_word::specs::Instruction::sent_to_a))]
+fn first_to_a(f: &Fields, sent: &Sent, address: u32) -> Option<u32>
+    ensures { result ≡ first_lane (sent_to_a f.now sent.now.add.v sent.now.mul.v address) }
+{
+    if !f.writes_a(address) {
+        None
+    } else if f.is_exchanged() {
+        Some(sent.mul.v[0])
+    } else {
+        Some(sent.add.v[0])
+    }
+}
+
+/// Lane 0 of the value sent to an address of file B.
+#[tactic(auto, unfolding(qpu_word::specs::Instruction::sent_to_b))]
+fn first_to_b(f: &Fields, sent: &Sent, address: u32) -> Option<u32>
+    ensures { result ≡ first_lane (sent_to_b f.now sent.now.add.v sent.now.mul.v address) }
+{
+    if !f.writes_b(address) {
+        None
+    } else if f.is_exchanged() {
+        Some(sent.add.v[0])
+    } else {
+        Some(sent.mul.v[0])
+    }
+}
+
+/// Whether an address issues a look-up.
+fn is_look(address: u32) -> bool
+    ensures { result ≡ is_look_address address }
+{
+    address == WRITE_TMU0_S || address == WRITE_TMU1_S
+}
+
+/// The address that issues a look-up, `NOWHERE` for none.
+#[tactic(auto, unfolding(qpu_word::specs::Instruction::look_address))]
+fn look_to(f: &Fields) -> u32
+    ensures { result ≡ look_address f.now }
+{
+    if f.mul_writes() && is_look(f.waddr_mul) {
+        f.waddr_mul
+    } else if f.add_writes() && is_look(f.waddr_add) {
+        f.waddr_add
+    } else {
+        NOWHERE
+    }
+}
+
+/// What a word sends out.
+#[tactic(auto, unfolding(qpu_word::specs::Instruction::outs_from))]
+pub fn outs(f: &Fields, sent: &Sent) -> Outs
+    ensures { result ≡ outs_from f.now sent.now.add.v sent.now.mul.v }
+{
+    Outs {
+        vpm: value_to(f, sent, WRITE_VPM),
+        to_read_setup: first_to_a(f, sent, WRITE_VPM_SETUP),
+        to_write_setup: first_to_b(f, sent, WRITE_VPM_SETUP),
+        uniform_to: first_to(f, sent, WRITE_UNIFORMS_ADDRESS),
+        load_at: first_to_a(f, sent, WRITE_DMA_ADDRESS),
+        store_at: first_to_b(f, sent, WRITE_DMA_ADDRESS),
+        look_unit: if look_to(f) == WRITE_TMU1_S { 1 } else { 0 },
+        look: value_to(f, sent, look_to(f)),
+    }
+}
+
+/// The book after a value for the read setup register, where there is one.
+fn with_read_setup(value: Option<u32>, book: Book) -> Result<Book, FaultKind>
+    ensures { result ≡ after_read_setup value book }
+{
+    let mut book = book;
+    match value {
+        None => Ok(book),
+        Some(value) => match book.put_read(value) {
+            Ok(()) => Ok(book),
+            Err(kind) => Err(kind),
+        },
+    }
+}
+
+/// The book after a value for the write setup register, where there is one.
+fn with_write_setup(value: Option<u32>, book: Book) -> Result<Book, FaultKind>
+    ensures { result ≡ after_write_setup value book }
+{
+    let mut book = book;
+    match value {
+        None => Ok(book),
+        Some(value) => match book.put_write(value) {
+            Ok(()) => Ok(book),
+            Err(kind) => Err(kind),
+        },
+    }
+}
+
+/// The book after both setup registers, in their order.
+#[tactic(auto, unfolding(qpu_word::specs::Instruction::after_setups))]
+pub fn with_setups(outs: &Outs, book: Book) -> Result<Book, FaultKind>
+    ensures { result ≡ after_setups outs.now book }
+{
+    match with_read_setup(outs.to_read_setup, book) {
+        Ok(book) => with_write_setup(outs.to_write_setup, book),
+        Err(kind) => Err(kind),
+    }
+}
+
+/// The book after a new uniforms address, where there is one.
+pub fn with_uniform_to(value: Option<u32>, book: Book) -> Book
+    ensures { result ≡ after_uniform_to value book }
+{
+    match value {
+        None => book,
+        Some(uniform_at) => Book { uniform_at, ..book },
+    }
+}

@@ -1,0 +1,132 @@
+//! One whole local instruction.
+ghost use Rattle.std.specs.Prelude.{◌≡◌, ◌+◌, ◌<◌, ◌≤◌, IsTrue, if◌then◌else◌};
+ghost use Rattle.qpu_word.specs.Lanes.{lanes};
+ghost use Rattle.qpu_word.specs.Words.{fields_of, is_branch, is_local, IsInProfile};
+ghost use Rattle.qpu_word.specs.declared.traffic.Ins.{Ins};
+ghost use Rattle.qpu_word.specs.declared.state.Halt.TheVariants.{Going};
+ghost use Rattle.qpu_word.specs.Fit.{IsFit};
+ghost use Rattle.qpu_word.specs.Instruction.{add_stored, mul_stored, add_sent, mul_sent, flags_after, no_ins, done, halted, outs_of, after_setups, after_uniform_to, then_after, branch_fails, local_result};
+ghost use Rattle.qpu_local.specs.Steps.{Steps};
+
+use qpu_word::code::WRITE_HOST_INT;
+use qpu_word::{Book, FaultKind, Fields, Halt, Ins, LANES, Lanes, Program, Word};
+
+use crate::outs::{outs, with_setups, with_uniform_to};
+use crate::processor::Processor;
+use crate::sending::Sent;
+use crate::storing::cond_of;
+
+/// What is read where nothing shared is.
+fn nothing_read() -> Ins
+    ensures { result ≡ no_ins }
+{
+    Ins {
+        uniform: 0,
+        vpm: Lanes { v: [0; LANES] },
+        load_busy: false,
+        store_busy: false,
+        loaded: Lanes { v: [0; LANES] },
+    }
+}
+
+impl Processor {
+    /// What the add unit leaves at its address.
+    #[tactic(auto, unfolding(qpu_word::specs::Instruction::add_stored))]
+    fn add_left(&self, f: &Fields, sent: &Sent) -> Lanes
+        requires { IsFit f.now }
+        ensures { (ins : Ins) → sent.now.add.v ≡ add_sent f.now self.now ins → result.v ≡ add_stored f.now self.now ins }
+    {
+        self.stored(f, f.is_exchanged(), f.waddr_add, cond_of(f, f.cond_add), &sent.add)
+    }
+
+    /// What the mul unit leaves at its address.
+    #[tactic(auto, unfolding(qpu_word::specs::Instruction::mul_stored))]
+    fn mul_left(&self, f: &Fields, sent: &Sent) -> Lanes
+        requires { IsFit f.now }
+        ensures { (ins : Ins) → sent.now.mul.v ≡ mul_sent f.now self.now ins → result.v ≡ mul_stored f.now self.now ins }
+    {
+        self.stored(f, !f.is_exchanged(), f.waddr_mul, cond_of(f, f.cond_mul), &sent.mul)
+    }
+
+    /// Does the whole instruction, with what it read, what it sends and its new book.
+    #[tactic(auto, unfolding(qpu_word::specs::Instruction::done))]
+    fn finish(&mut self, f: &Fields, ins: &Ins, sent: &Sent, book: Book)
+        requires fit { IsFit f.now }
+        requires executed { self.old.executed < 1000000 }
+        requires place { IsTrue (is_branch f.now) → self.old.place < 4096 }
+        requires add { sent.now.add.v ≡ add_sent f.now self.old ins.now }
+        requires mul { sent.now.mul.v ≡ mul_sent f.now self.old ins.now }
+        requires flags { sent.now.flags ≡ flags_after f.now self.old ins.now }
+        ensures { self.new ≡ done f.now self.old ins.now book }
+    {
+        let add = self.add_left(f, sent);
+        let mul = self.mul_left(f, sent);
+        let rest = self.rest_after(f);
+        let place = self.place_after(f);
+        let halt = self.halt_after(f);
+        let raised = if f.writes(WRITE_HOST_INT) { 1 } else { 0 };
+        self.put_add(f, &add);
+        self.put_mul(f, &mul);
+        self.put_loaded(f, ins);
+        self.flags = sent.flags;
+        self.place = place;
+        self.rest = rest;
+        self.book = book;
+        self.executed += 1;
+        self.interrupts += raised;
+        self.halt = halt;
+    }
+
+    /// Faults at its place: the halt alone changes.
+    #[tactic(auto, unfolding(qpu_word::specs::Instruction::halted))]
+    fn fault(&mut self, kind: FaultKind)
+        ensures { self.new ≡ halted kind self.old }
+    {
+        self.halt = Halt::Faulted(kind, self.place);
+    }
+
+    /// Does a local word that doesn't fail as a branch.
+    fn step_word(&mut self, f: &Fields) -> Option<FaultKind>
+        requires fit { IsFit f.now }
+        requires executed { self.old.executed < 1000000 }
+        requires place { self.old.place < 4096 }
+        ensures { Steps result (then_after (after_setups (outs_of f.now self.old no_ins) self.old.book) (λ book. Ok (done f.now self.old no_ins (after_uniform_to (outs_of f.now self.old no_ins).uniform_to book)))) self.old self.new }
+    {
+        let ins = nothing_read();
+        let sent = self.sent(f, &ins);
+        let out = outs(f, &sent);
+        match with_setups(&out, self.book) {
+            Ok(book) => {
+                self.finish(f, &ins, &sent, with_uniform_to(out.uniform_to, book));
+                None
+            }
+            Err(kind) => {
+                self.fault(kind);
+                Some(kind)
+            }
+        }
+    }
+
+    /// One whole local instruction at its place, of a program of at most 4,096 words. None: it was
+    /// done. Some: it faulted with `Setup`, `SetupsFull` or `Branch`, and the halt alone changed.
+    #[tactic(auto, unfolding(qpu_word::specs::Instruction::local_result))]
+    pub fn step_local<G: Program>(&mut self, program: &G) -> Option<FaultKind>
+        requires going { self.old.halt ≡ Going }
+        requires executed { self.old.executed < 1000000 }
+        requires words { G.len program.now ≤ 4096 }
+        requires place { self.old.place < G.len program.now }
+        requires profile { IsInProfile (G.word program.now self.old.place) }
+        requires local { IsTrue (is_local (fields_of (G.word program.now self.old.place))) }
+        ensures { Steps result (local_result (G.is_link program.now) (G.word program.now self.old.place) self.old) self.old self.new }
+    {
+        let Some(word) = program.word(self.place) else {
+            unreachable!()
+        };
+        let f = word.fields();
+        if self.branch_fails(&f, program) {
+            self.fault(FaultKind::Branch);
+            return Some(FaultKind::Branch);
+        }
+        self.step_word(&f)
+    }
+}
