@@ -16,8 +16,8 @@ pub record Takes (old new : Input) (bytes : List ℕ) : Type 0 where
   pub left : old.left ≡ option_map (λ rest. bytes ++ rest) new.left
   pub faults : new.faults ≡ old.faults
 
--- a read of n bytes: the next n bytes left stand first in the buffer, and the rest of the buffer is unchanged;
--- of a buffer that isn't empty, no byte is read only at the end of input
+-- a read of n bytes: the next n bytes left stand first in the buffer, and the rest of the buffer is
+-- unchanged; for a buffer that isn't empty, no byte is read only at the end of input
 pub record Reads (old new : Input) (buffer filled : List ℕ) (n : ℕ) : Type 0 where
   pub within : n ≤ length buffer
   pub rest : drop n filled ≡ drop n buffer

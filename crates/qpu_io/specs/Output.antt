@@ -13,7 +13,7 @@ output_untold faults = record { held = None; faults = faults }
 
 -- a sink after these bytes were appended, with no fault
 abbrev pub appended : Output → List ℕ → Output
-appended old bytes = record { held = option_map (λ held. held ++ bytes) old.held; faults = old.faults }
+appended old bytes = record old { held = option_map (λ held. held ++ bytes) old.held }
 
 -- a write of the first n bytes of a piece: at least one where the piece isn't empty
 pub record Writes (old new : Output) (piece : List ℕ) (n : ℕ) : Type 0 where

@@ -25,8 +25,10 @@ hex_digit n = if nat_lt n 10 then n + 48 else n + 87
 -- a word of 32 bits as eight hexadecimal digits
 unfoldable pub hex8 : ℕ → List ℕ
 hex8 n =
-    hex_digit (n / 0x1000_0000 % 16) ∷ hex_digit (n / 0x100_0000 % 16) ∷ hex_digit (n / 0x10_0000 % 16) ∷ hex_digit (n / 0x1_0000 % 16)
-    ∷ hex_digit (n / 0x1000 % 16) ∷ hex_digit (n / 0x100 % 16) ∷ hex_digit (n / 0x10 % 16) ∷ hex_digit (n % 16) ∷ []
+    hex_digit (n / 0x1000_0000 % 16) ∷ hex_digit (n / 0x100_0000 % 16)
+    ∷ hex_digit (n / 0x10_0000 % 16) ∷ hex_digit (n / 0x1_0000 % 16)
+    ∷ hex_digit (n / 0x1000 % 16) ∷ hex_digit (n / 0x100 % 16)
+    ∷ hex_digit (n / 0x10 % 16) ∷ hex_digit (n % 16) ∷ []
 
 -- a lane: a space and its eight digits
 abbrev pub lane_text : ℕ → List ℕ

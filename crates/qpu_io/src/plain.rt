@@ -1,10 +1,10 @@
 //! A source and a sink in memory that fail at no call of choice.
 
 ghost use Rattle.std.specs.Prelude.{◌≡◌, ◌↔◌, ◌+◌, ◌-◌, ◌<◌, ◌≤◌, ◌++◌, [], length, min, max, take, drop, List, ℕ, vec_len, vec_capacity, IfOk, OnErr, OnOk, IsOk, IsErr};
-ghost use Rattle.qpu_io.specs.Faults.{Rose, counted};
+ghost use Rattle.qpu_io.specs.Faults.{Rose};
 ghost use Rattle.qpu_io.specs.Input.{Reads};
 ghost use Rattle.qpu_io.specs.Output.{Writes, WriteFails};
-ghost use Rattle.qpu_io.specs.Stores.{plain_shown, shelf_shown};
+ghost use Rattle.qpu_io.specs.Stores.{plain_shown, shelf_shown, shelf_written, shelf_failed};
 
 use crate::filling::fill;
 use crate::stream::{Sink, SinkFailed, Source, SourceFailed};
@@ -41,9 +41,11 @@ impl Source for PlainSource {
 
     /// Reads as many of the bytes left as fit.
     fn read(&mut self, buf: &mut [u8]) -> Result<usize, SourceFailed>
-        ensures ok { IfOk result (λ n. Reads (plain_shown self.old) (plain_shown self.new) buf.old buf.new n) }
+        ensures ok { IfOk result (λ n.
+            Reads (plain_shown self.old) (plain_shown self.new) buf.old buf.new n) }
         ensures never_fails { IsOk result }
         ensures count { IfOk result (λ n. n ≡ min (length buf.old) (length self.old)) }
+        ensures left { IfOk result (λ n. self.new ≡ drop n self.old) }
     {
         let count = fill(buf, &self.bytes[self.at..]);
         self.at += count;
@@ -105,7 +107,7 @@ impl PlainSink {
 
     /// Counts a fault. The count stands at the last value of 64 bits.
     pub(crate) fn fail(&mut self) -> SinkFailed
-        ensures counted { self.new ≡ record self.old { faults = counted self.old.faults } }
+        ensures failed { self.new ≡ shelf_failed self.old }
         ensures rose { Rose self.old.faults self.new.faults }
     {
         self.faults = self.faults.saturating_add(1);
@@ -116,15 +118,16 @@ impl PlainSink {
 impl Sink for PlainSink {
     ghost shown = { shelf_shown };
 
-    /// Appends as many bytes as there is room for. It fails, and counts a fault, where there are bytes
-    /// and no room.
+    /// Appends as many bytes as there is room for. It fails, and counts a fault, where there are
+    /// bytes and no room.
     fn write(&mut self, bytes: &[u8]) -> Result<usize, SinkFailed>
-        ensures ok { IfOk result (λ n. Writes (shelf_shown self.old) (shelf_shown self.new) bytes.now n) }
+        ensures ok { IfOk result (λ n.
+            Writes (shelf_shown self.old) (shelf_shown self.new) bytes.now n) }
         ensures err { OnErr result (WriteFails (shelf_shown self.old) (shelf_shown self.new)) }
         ensures fails { IsErr result ↔ ((0 < length bytes.now) × (self.old.spare ≡ 0)) }
         ensures count { IfOk result (λ n. n ≡ min (length bytes.now) self.old.spare) }
-        ensures stored { IfOk result (λ n. self.new ≡ record self.old { bytes = self.old.bytes ++ take n bytes.now; spare = self.old.spare - n }) }
-        ensures refused { OnErr result (self.new ≡ record self.old { faults = counted self.old.faults }) }
+        ensures stored { IfOk result (λ n. self.new ≡ shelf_written self.old bytes.now n) }
+        ensures refused { OnErr result (self.new ≡ shelf_failed self.old) }
     {
         if self.spare == 0 && !bytes.is_empty() {
             return Err(self.fail());

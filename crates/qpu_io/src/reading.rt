@@ -25,18 +25,22 @@ pub enum ReadAllError {
 
 /// Reads to the end of input, at most `limit` bytes, and gives them.
 ///
-/// Where more come it stops, with up to 65,536 bytes more than `limit` taken. An error gives no bytes
-/// back; those that were taken are lost.
+/// Where more come it stops, with up to 65,536 bytes more than `limit` taken. An error gives no
+/// bytes back; those that were taken are lost.
 pub fn read_all<S: Source>(
     alloc: Global,
     source: &mut S,
     limit: u64,
 ) -> Result<Vec<u8>, ReadAllError>
     requires { limit ≤ MOST_BYTES }
-    ensures whole { IfOk result (λ bytes. ReadsToEnd (S.shown source.old) (S.shown source.new) limit bytes.items) }
-    ensures too_long { IsErrOf result ReadAllError.TooLong → ReadsPast (S.shown source.old) (S.shown source.new) limit }
-    ensures broken { IsErrOf result ReadAllError.Source → ReadBreaks (S.shown source.old) (S.shown source.new) limit }
-    ensures memory { IsErrOf result ReadAllError.Memory → ReadsPart (S.shown source.old) (S.shown source.new) limit }
+    ensures whole { IfOk result (λ bytes.
+        ReadsToEnd (S.shown source.old) (S.shown source.new) limit bytes.items) }
+    ensures too_long { IsErrOf result ReadAllError.TooLong
+        → ReadsPast (S.shown source.old) (S.shown source.new) limit }
+    ensures broken { IsErrOf result ReadAllError.Source
+        → ReadBreaks (S.shown source.old) (S.shown source.new) limit }
+    ensures memory { IsErrOf result ReadAllError.Memory
+        → ReadsPart (S.shown source.old) (S.shown source.new) limit }
 {
     let mut bytes = Vec::new(alloc);
     let mut buffer = [0; AT_ONCE];

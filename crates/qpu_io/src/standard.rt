@@ -53,8 +53,8 @@ impl Source for StdSource {
     }
 }
 
-/// Standard output, written with no buffer of its own. Its count of faults stands at the last value of
-/// 64 bits.
+/// Standard output, written with no buffer of its own. Its count of faults stands at the last value
+/// of 64 bits.
 #[derive(Drop)]
 pub struct StdSink {
     output: Stdout,

@@ -16,8 +16,8 @@ pub struct SinkFailed;
 pub trait Source {
     ghost shown: { Self → Input };
 
-    /// Reads the next bytes left into the front of `buf` and says how many; 0 for a buffer that isn't
-    /// empty is the end of input.
+    /// Reads the next bytes left into the front of `buf` and says how many; 0 for a buffer that
+    /// isn't empty is the end of input.
     fn read(&mut self, buf: &mut [u8]) -> Result<usize, SourceFailed>
         ensures ok { IfOk result (λ n. Reads (shown self.old) (shown self.new) buf.old buf.new n) }
         ensures err { OnErr result (ReadFails (shown self.old) (shown self.new)) };

@@ -8,4 +8,6 @@ use Rattle.qpu_io.proofs.pieces.put_all.Goals as goal
 pub returns-in_err-put_piece : goal.returns-in_err-put_piece
 returns-in_err-put_piece g c =
     let p = err_from_is_err_and c.from_residual.result c.from_residual.ensures.1 in
-    rw p.1 (each_cut piece_text c.args.pieces.now c.loop-piece.piece-index _ _ _ _ _ (omega arith) refl c.loop-piece.invariant c.in_err-put_piece.ensures)
+    rw p.1
+    (each_cut piece_text c.args.pieces.now c.loop-piece.piece-index _ _ _ _ _ (omega arith) refl
+    c.loop-piece.invariant c.in_err-put_piece.ensures)

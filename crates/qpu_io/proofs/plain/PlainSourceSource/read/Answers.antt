@@ -7,4 +7,5 @@ pub returns-clause-ok : goal.returns-clause-ok
 returns-clause-ok c =
     let count = rw (take_rest, c.deref.ensures.value) at c.fill-count.ensures.count in
     let filled = rw (take_rest, c.deref.ensures.value) at c.fill-count.ensures.filled in
-    rw (← c.self.view_is, ← drop-drop c.fill-count.result c.self.inside.at c.self.inside.bytes.items) (front_read _ _ _ _ count filled)
+    rw (← c.self.view_is, ← drop-drop c.fill-count.result c.self.inside.at c.self.inside.bytes.items)
+    (front_read _ _ _ _ count filled)
