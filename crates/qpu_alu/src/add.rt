@@ -3,9 +3,8 @@ ghost use Rattle.qpu_word.specs.Lanes.{lanes, lane, mask};
 ghost use Rattle.qpu_word.specs.Operations.{add_result, add_carry, signed_lt, widened, low32};
 ghost use Rattle.qpu_word.specs.Instruction.{carry_mask};
 
-use qpu_word::{AddOp, LANES, Lanes, with_lane};
-
 use crate::bytes::{differences, sums};
+use qpu_word::{AddOp, LANES, Lanes, with_lane};
 
 /// Shift amounts are modulo this.
 const WIDTH: u32 = 32;
@@ -27,7 +26,11 @@ fn is_less(a: u32, b: u32) -> bool
 fn wide(a: u32) -> u64
     ensures { result ≡ widened a }
 {
-    if a < SIGN { u64::from(a) } else { u64::from(a) + SIGN_OVER_64 }
+    if a < SIGN {
+        u64::from(a)
+    } else {
+        u64::from(a) + SIGN_OVER_64
+    }
 }
 
 /// The low 32 bits.

@@ -10,5 +10,4 @@ mod mul;
 
 pub use add::add_unit;
 pub use mul::mul_unit;
-pub use qpu_word::AddOp;
-pub use qpu_word::MulOp;
+pub use qpu_word::{AddOp, MulOp};

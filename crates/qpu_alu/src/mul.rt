@@ -2,9 +2,8 @@ ghost use Rattle.std.specs.Prelude.{◌≡◌, ℕ, ◌*◌, ◌%◌, ◌^◌};
 ghost use Rattle.qpu_word.specs.Lanes.{lanes, lane};
 ghost use Rattle.qpu_word.specs.Operations.{mul_result, low32};
 
-use qpu_word::{LANES, Lanes, MulOp};
-
 use crate::bytes::{differences, maxima, minima, products, sums};
+use qpu_word::{LANES, Lanes, MulOp};
 
 /// The low 24 bits.
 const LOW_24: u32 = 0xff_ffff;

@@ -43,7 +43,7 @@ load_plan t = record {
   column = field t.setup 0 4;
   vertical = (field t.setup 11 1 == 1);
   vpm_pitch = counted (field t.setup 12 4) 16;
-  aligned = load_pitch t.setup t.step
+  aligned = load_pitch t.setup t.step;
 }
 
 -- the words of a row of a store
@@ -61,7 +61,7 @@ store_plan t = record {
   column = field t.setup 3 4;
   vertical = (field t.setup 14 1 == 0);
   vpm_pitch = 1;
-  aligned = t.step
+  aligned = t.step;
 }
 
 -- row k, element j of a transfer
@@ -69,7 +69,7 @@ abbrev pub pair_at : Plan → ℕ → ℕ → Pair
 pair_at plan k j = record {
   word = (plan.address + k * plan.pitch + 4 * j) / 4;
   row = (if plan.vertical then plan.row + j else plan.row + k * plan.vpm_pitch);
-  column = (if plan.vertical then plan.column + k * plan.vpm_pitch else plan.column + j)
+  column = (if plan.vertical then plan.column + k * plan.vpm_pitch else plan.column + j);
 }
 
 -- the pairs of a transfer, row by row

@@ -18,7 +18,7 @@ state_of inside = record {
   book = inside.book;
   executed = inside.executed;
   interrupts = inside.interrupts;
-  halt = inside.halt
+  halt = inside.halt;
 }
 
 -- the fields of a processor's state
@@ -34,7 +34,7 @@ fields_back p = record {
   book = p.book;
   executed = p.executed;
   interrupts = p.interrupts;
-  halt = p.halt
+  halt = p.halt;
 }
 
 -- the place that a branch in progress goes to, 0 where there is none

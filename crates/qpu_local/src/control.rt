@@ -8,12 +8,22 @@ ghost use Rattle.qpu_word.specs.Lanes.{lane};
 ghost use Rattle.qpu_word.specs.Instruction.{is_taken, target_of, branch_fails, rest_later, rest_after, place_later, place_after, halt_later, halt_after};
 ghost use Rattle.qpu_local.specs.Views.{coming_place};
 
-use qpu_word::code::{BRANCH_SLOTS, END_SLOTS, WORD_BYTES};
-use qpu_word::{Fields, Halt, Program, Rest};
-
 use crate::flagging::branches;
 use crate::processor::Processor;
 use crate::sending::link;
+use qpu_word::code::{BRANCH_SLOTS, END_SLOTS, WORD_BYTES};
+use qpu_word::{Fields, Halt, Program, Rest};
+
+/// Where control stands after a word.
+#[derive(Clone, Copy, Debug)]
+pub struct Next {
+    /// The place of the next word.
+    pub place: u32,
+    /// What is in progress there.
+    pub rest: Rest,
+    /// Whether the processor still goes on.
+    pub halt: Halt,
+}
 
 /// What is in progress one word later.
 fn rest_one_later(rest: Rest) -> Rest
@@ -21,8 +31,16 @@ fn rest_one_later(rest: Rest) -> Rest
 {
     match rest {
         Rest::Straight => Rest::Straight,
-        Rest::Ending(n) => if n < 2 { Rest::Straight } else { Rest::Ending(n - 1) },
-        Rest::To(n, t) => if n < 2 { Rest::Straight } else { Rest::To(n - 1, t) },
+        Rest::Ending(n) => if n < 2 {
+            Rest::Straight
+        } else {
+            Rest::Ending(n - 1)
+        },
+        Rest::To(n, t) => if n < 2 {
+            Rest::Straight
+        } else {
+            Rest::To(n - 1, t)
+        },
     }
 }
 
@@ -62,7 +80,11 @@ impl Processor {
         requires { IsFit f.now }
         ensures { result ≡ (if f.now.reg == 1 then lane (row_of self.now.file_a f.now.raddr_br) 0 else 0) }
     {
-        if f.reg == 1 { self.row(false, f.raddr_br).v[0] } else { 0 }
+        if f.reg == 1 {
+            self.row(false, f.raddr_br).v[0]
+        } else {
+            0
+        }
     }
 
     /// The target of a branch, in bytes.
@@ -107,7 +129,7 @@ impl Processor {
 
     /// What is in progress after a word.
     #[tactic(auto, unfolding(qpu_word::specs::Instruction::rest_after))]
-    pub fn rest_after(&self, f: &Fields) -> Rest
+    fn rest_after(&self, f: &Fields) -> Rest
         requires fit { IsFit f.now }
         requires place { IsTrue (is_branch f.now) → self.now.place < 4096 }
         ensures rest { result ≡ rest_after f.now self.now }
@@ -124,7 +146,7 @@ impl Processor {
 
     /// The place after a word.
     #[tactic(auto, unfolding(qpu_word::specs::Instruction::place_after))]
-    pub fn place_after(&self, f: &Fields) -> u32
+    fn place_after(&self, f: &Fields) -> u32
         requires { self.now.executed < 1000000 }
         ensures place { result ≡ place_after f.now self.now }
         ensures within { result ≤ 2 ^ 29 + self.now.executed + 1 }
@@ -138,13 +160,31 @@ impl Processor {
 
     /// The halt after a word.
     #[tactic(auto, unfolding(qpu_word::specs::Instruction::halt_after))]
-    pub fn halt_after(&self, f: &Fields) -> Halt
+    fn halt_after(&self, f: &Fields) -> Halt
         ensures { result ≡ halt_after f.now self.now }
     {
         if f.is_branch() || f.is_program_end() {
             Halt::Going
         } else {
             halt_one_later(self.rest)
+        }
+    }
+
+    /// Where control stands after a word.
+    pub fn next(&self, f: &Fields) -> Next
+        requires fit { IsFit f.now }
+        requires executed { self.now.executed < 1000000 }
+        requires place { IsTrue (is_branch f.now) → self.now.place < 4096 }
+        ensures place { result.place ≡ place_after f.now self.now }
+        ensures rest { result.rest ≡ rest_after f.now self.now }
+        ensures halt { result.halt ≡ halt_after f.now self.now }
+        ensures within { result.place ≤ 2 ^ 29 + self.now.executed + 1 }
+        ensures coming { coming_place result.rest < 2 ^ 29 }
+    {
+        Next {
+            place: self.place_after(f),
+            rest: self.rest_after(f),
+            halt: self.halt_after(f),
         }
     }
 }

@@ -122,12 +122,21 @@ fn negatives(values: &Lanes) -> u32
 fn set_by(values: &Lanes, c: Option<u32>) -> Flags
     ensures { result ≡ flags_of values.now.v c }
 {
-    Flags { zn: Some((zeros(values), negatives(values))), c }
+    Flags {
+        zn: Some((zeros(values), negatives(values))),
+        c,
+    }
 }
 
 /// The flags after both units.
 #[tactic(auto, unfolding(qpu_word::specs::Instruction::unit_flags))]
-pub fn after_units(f: &Fields, flags: Flags, add: &Lanes, carries: Option<u32>, mul: &Lanes) -> Flags
+pub fn after_units(
+    f: &Fields,
+    flags: Flags,
+    add: &Lanes,
+    carries: Option<u32>,
+    mul: &Lanes,
+) -> Flags
     ensures { result ≡ unit_flags f.now flags add.now.v carries mul.now.v }
 {
     if f.sf != 1 {
@@ -146,5 +155,9 @@ pub fn after_units(f: &Fields, flags: Flags, add: &Lanes, carries: Option<u32>, 
 pub fn after_load(f: &Fields, flags: Flags, values: &Lanes) -> Flags
     ensures { result ≡ load_flags f.now flags values.now.v }
 {
-    if f.sf == 1 && f.is_load() { set_by(values, None) } else { flags }
+    if f.sf == 1 && f.is_load() {
+        set_by(values, None)
+    } else {
+        flags
+    }
 }

@@ -15,5 +15,4 @@ mod storing;
 mod units;
 
 pub use processor::Processor;
-pub use qpu_word::Flags;
-pub use qpu_word::Halt;
+pub use qpu_word::{Flags, Halt};

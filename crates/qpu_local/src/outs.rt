@@ -2,13 +2,12 @@
 ghost use Rattle.std.specs.Prelude.{◌≡◌, ℕ};
 ghost use Rattle.qpu_word.specs.Instruction.{is_look_address, sent_to, sent_to_a, sent_to_b, first_lane, as_lanes, look_address, outs_from, after_read_setup, after_write_setup, after_setups, after_uniform_to};
 
+use crate::sending::Sent;
 use qpu_word::code::{
     NOWHERE, WRITE_DMA_ADDRESS, WRITE_TMU0_S, WRITE_TMU1_S, WRITE_UNIFORMS_ADDRESS, WRITE_VPM,
     WRITE_VPM_SETUP,
 };
 use qpu_word::{Book, FaultKind, Fields, Lanes, Outs};
-
-use crate::sending::Sent;
 
 /// The value sent to an address of either file.
 #[tactic(auto, unfolding(qpu_word::specs::Instruction::sent_to))]

@@ -76,9 +76,13 @@ impl Processor {
         ensures { result.v ≡ row_of (if file_b then self.now.file_b else self.now.file_a) at }
     {
         if file_b {
-            Lanes { v: self.file_b[at as usize] }
+            Lanes {
+                v: self.file_b[at as usize],
+            }
         } else {
-            Lanes { v: self.file_a[at as usize] }
+            Lanes {
+                v: self.file_a[at as usize],
+            }
         }
     }
 
@@ -87,7 +91,9 @@ impl Processor {
         requires { n < 6 }
         ensures { result.v ≡ row_of self.now.accumulators n }
     {
-        Lanes { v: self.accumulators[n as usize] }
+        Lanes {
+            v: self.accumulators[n as usize],
+        }
     }
 
     /// The flags as masks, lane i at bit i.

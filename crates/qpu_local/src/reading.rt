@@ -4,13 +4,12 @@ ghost use Rattle.qpu_word.specs.Lanes.{Gives, lane, lanes};
 ghost use Rattle.qpu_word.specs.Words.{is_small};
 ghost use Rattle.qpu_word.specs.Operands.{row_of, read_a, read_b, operand, unpacked, immediate_of, bit_of};
 
+use crate::processor::Processor;
 use qpu_pack::{small_value, unpack};
 use qpu_word::code::{
     MUX_FILE_A, MUX_FILE_B, READ_DMA_BUSY, READ_NUMBER, READ_UNIFORM, READ_VPM, ROTATE_BY_R5, ROWS,
 };
 use qpu_word::{Fields, Ins, LANES, Lanes};
-
-use crate::processor::Processor;
 
 /// One number in all lanes.
 #[tactic(auto, using(qpu_word::proofs::LaneLemmas::gives_repeated, qpu_word::proofs::LaneLemmas::lanes_repeated))]
@@ -44,7 +43,11 @@ fn bits(on: bool) -> Lanes
 fn immediate(code: u32) -> u32
     ensures { result ≡ immediate_of code }
 {
-    if code < ROTATE_BY_R5 { small_value(code) } else { 0 }
+    if code < ROTATE_BY_R5 {
+        small_value(code)
+    } else {
+        0
+    }
 }
 
 impl Processor {

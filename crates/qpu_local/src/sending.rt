@@ -6,13 +6,12 @@ ghost use Rattle.qpu_word.specs.Fit.{IsFit};
 ghost use Rattle.qpu_word.specs.declared.traffic.Ins.{Ins};
 ghost use Rattle.qpu_word.specs.Instruction.{signed_pair, bit_pair, loaded, link_of, plain_values, add_sent, mul_sent, flags_after};
 
-use qpu_pack::rotate;
-use qpu_word::code::{BRANCH_SLOTS, KIND_LOAD, KIND_LOAD_SIGNED, WORD_BYTES};
-use qpu_word::{Fields, Flags, Ins, LANES, Lanes};
-
 use crate::flagging::{after_load, after_units};
 use crate::processor::Processor;
 use crate::reading::repeated;
+use qpu_pack::rotate;
+use qpu_word::code::{BRANCH_SLOTS, KIND_LOAD, KIND_LOAD_SIGNED, WORD_BYTES};
+use qpu_word::{Fields, Flags, Ins, LANES, Lanes};
 
 /// What a negative number of two bits adds over 32 bits.
 const SIGN_OVER_32: u32 = 0xffff_fffc;
@@ -86,7 +85,11 @@ fn plain(f: &Fields, place: u32) -> Lanes
     requires { IsTrue (is_branch f.now) → place < 4096 }
     ensures { result.v ≡ plain_values f.now place }
 {
-    if f.is_branch() { repeated(link(place)) } else { load_values(f) }
+    if f.is_branch() {
+        repeated(link(place))
+    } else {
+        load_values(f)
+    }
 }
 
 impl Processor {
@@ -133,6 +136,10 @@ impl Processor {
         ensures mul { result.mul.v ≡ mul_sent f.now self.now ins.now }
         ensures flags { result.flags ≡ flags_after f.now self.now ins.now }
     {
-        if f.is_unit_word() { self.sent_by_units(f, ins) } else { self.sent_plain(f) }
+        if f.is_unit_word() {
+            self.sent_by_units(f, ins)
+        } else {
+            self.sent_plain(f)
+        }
     }
 }

@@ -1,22 +1,24 @@
 //! One whole local instruction.
-ghost use Rattle.std.specs.Prelude.{◌≡◌, ◌+◌, ◌<◌, ◌≤◌, IsTrue, if◌then◌else◌};
+ghost use Rattle.std.specs.Prelude.{◌≡◌, ◌+◌, ◌^◌, ◌<◌, ◌≤◌, IsTrue, if◌then◌else◌};
 ghost use Rattle.qpu_word.specs.Lanes.{lanes};
 ghost use Rattle.qpu_word.specs.Words.{fields_of, is_branch, is_local, IsInProfile};
 ghost use Rattle.qpu_word.specs.declared.traffic.Ins.{Ins};
 ghost use Rattle.qpu_word.specs.declared.state.Halt.TheVariants.{Going};
 ghost use Rattle.qpu_word.specs.Fit.{IsFit};
-ghost use Rattle.qpu_word.specs.Instruction.{add_stored, mul_stored, add_sent, mul_sent, flags_after, no_ins, done, halted, outs_of, after_setups, after_uniform_to, then_after, branch_fails, local_result};
+ghost use Rattle.qpu_word.specs.Instruction.{registers_after, moved_on, raised_by, add_stored, mul_stored, add_sent, mul_sent, flags_after, no_ins, done, halted, outs_of, after_setups, after_uniform_to, then_after, branch_fails, local_result};
 ghost use Rattle.qpu_local.specs.Steps.{Steps};
+ghost use Rattle.qpu_local.specs.Views.{coming_place};
 
-use qpu_word::code::WRITE_HOST_INT;
-use qpu_word::{Book, FaultKind, Fields, Halt, Ins, LANES, Lanes, Program, Word};
-
+use crate::control::Next;
 use crate::outs::{outs, with_setups, with_uniform_to};
 use crate::processor::Processor;
 use crate::sending::Sent;
 use crate::storing::cond_of;
+use qpu_word::code::WRITE_HOST_INT;
+use qpu_word::{Book, FaultKind, Fields, Flags, Halt, Ins, LANES, Lanes, Program, Word};
 
 /// What is read where nothing shared is.
+#[tactic(auto, unfolding(qpu_word::specs::Lanes::lanes))]
 fn nothing_read() -> Ins
     ensures { result ≡ no_ins }
 {
@@ -36,7 +38,13 @@ impl Processor {
         requires { IsFit f.now }
         ensures { (ins : Ins) → sent.now.add.v ≡ add_sent f.now self.now ins → result.v ≡ add_stored f.now self.now ins }
     {
-        self.stored(f, f.is_exchanged(), f.waddr_add, cond_of(f, f.cond_add), &sent.add)
+        self.stored(
+            f,
+            f.is_exchanged(),
+            f.waddr_add,
+            cond_of(f, f.cond_add),
+            &sent.add,
+        )
     }
 
     /// What the mul unit leaves at its address.
@@ -45,11 +53,50 @@ impl Processor {
         requires { IsFit f.now }
         ensures { (ins : Ins) → sent.now.mul.v ≡ mul_sent f.now self.now ins → result.v ≡ mul_stored f.now self.now ins }
     {
-        self.stored(f, !f.is_exchanged(), f.waddr_mul, cond_of(f, f.cond_mul), &sent.mul)
+        self.stored(
+            f,
+            !f.is_exchanged(),
+            f.waddr_mul,
+            cond_of(f, f.cond_mul),
+            &sent.mul,
+        )
+    }
+
+    /// Writes the registers.
+    #[tactic(auto, unfolding(qpu_word::specs::Instruction::registers_after))]
+    fn put_registers(&mut self, f: &Fields, ins: &Ins, sent: &Sent)
+        requires fit { IsFit f.now }
+        requires add { sent.now.add.v ≡ add_sent f.now self.old ins.now }
+        requires mul { sent.now.mul.v ≡ mul_sent f.now self.old ins.now }
+        ensures { self.new ≡ registers_after f.now self.old ins.now }
+    {
+        let add = self.add_left(f, sent);
+        let mul = self.mul_left(f, sent);
+        self.put_add(f, &add);
+        self.put_mul(f, &mul);
+        self.put_loaded(f, ins);
+    }
+
+    /// Moves on by one instruction.
+    #[tactic(auto, unfolding(qpu_word::specs::Instruction::moved_on))]
+    fn move_on(&mut self, flags: Flags, next: Next, book: Book, raised: u32)
+        requires executed { self.old.executed < 1000000 }
+        requires place { next.place ≤ 2 ^ 29 + self.old.executed + 1 }
+        requires coming { coming_place next.rest < 2 ^ 29 }
+        requires raised { raised ≤ 1 }
+        ensures { self.new ≡ moved_on flags next.place next.rest book raised next.halt self.old }
+    {
+        self.flags = flags;
+        self.place = next.place;
+        self.rest = next.rest;
+        self.book = book;
+        self.executed += 1;
+        self.interrupts += raised;
+        self.halt = next.halt;
     }
 
     /// Does the whole instruction, with what it read, what it sends and its new book.
-    #[tactic(auto, unfolding(qpu_word::specs::Instruction::done))]
+    #[tactic(auto, unfolding(qpu_word::specs::Instruction::done), using(crate::proofs::Kept::executed_kept))]
     fn finish(&mut self, f: &Fields, ins: &Ins, sent: &Sent, book: Book)
         requires fit { IsFit f.now }
         requires executed { self.old.executed < 1000000 }
@@ -59,22 +106,10 @@ impl Processor {
         requires flags { sent.now.flags ≡ flags_after f.now self.old ins.now }
         ensures { self.new ≡ done f.now self.old ins.now book }
     {
-        let add = self.add_left(f, sent);
-        let mul = self.mul_left(f, sent);
-        let rest = self.rest_after(f);
-        let place = self.place_after(f);
-        let halt = self.halt_after(f);
+        let next = self.next(f);
         let raised = if f.writes(WRITE_HOST_INT) { 1 } else { 0 };
-        self.put_add(f, &add);
-        self.put_mul(f, &mul);
-        self.put_loaded(f, ins);
-        self.flags = sent.flags;
-        self.place = place;
-        self.rest = rest;
-        self.book = book;
-        self.executed += 1;
-        self.interrupts += raised;
-        self.halt = halt;
+        self.put_registers(f, ins, sent);
+        self.move_on(sent.flags, next, book, raised);
     }
 
     /// Faults at its place: the halt alone changes.
@@ -109,7 +144,7 @@ impl Processor {
 
     /// One whole local instruction at its place, of a program of at most 4,096 words. None: it was
     /// done. Some: it faulted with `Setup`, `SetupsFull` or `Branch`, and the halt alone changed.
-    #[tactic(auto, unfolding(qpu_word::specs::Instruction::local_result))]
+    #[tactic(auto, unfolding(qpu_word::specs::Instruction::local_result), using(qpu_word::proofs::ProfileLemmas::fit_of_fields))]
     pub fn step_local<G: Program>(&mut self, program: &G) -> Option<FaultKind>
         requires going { self.old.halt ≡ Going }
         requires executed { self.old.executed < 1000000 }

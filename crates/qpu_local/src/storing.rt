@@ -7,15 +7,15 @@ ghost use Rattle.qpu_word.specs.Operands.{row_of};
 ghost use Rattle.qpu_word.specs.Writing.{pack_mode, left, replicated, old_at, stored, written};
 ghost use Rattle.qpu_word.specs.Instruction.{write_cond, put_add, put_mul, put_loaded};
 
+use crate::flagging::holds_in;
+use crate::processor::Processor;
 use qpu_pack::pack_into;
 use qpu_word::code::{ROWS, WRITE_R0, WRITE_R3, WRITE_R5};
 use qpu_word::{Fields, Flags, Ins, LANES, Lanes};
 
-use crate::flagging::holds_in;
-use crate::processor::Processor;
-
 /// The accumulators that TMU loads and writes of address 37 go to.
 const R4: usize = 4;
+
 const R5: usize = 5;
 
 /// Lanes of a group whose first one goes to all of it.

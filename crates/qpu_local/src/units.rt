@@ -4,12 +4,11 @@ ghost use Rattle.qpu_word.specs.Fit.{IsFit};
 ghost use Rattle.qpu_word.specs.Writing.{rotation};
 ghost use Rattle.qpu_word.specs.Instruction.{add_values, add_carries, mul_values};
 
+use crate::processor::Processor;
+use crate::reading::repeated;
 use qpu_alu::{AddOp, MulOp, add_unit, mul_unit};
 use qpu_word::code::ROTATE_BY_R5;
 use qpu_word::{Fields, Ins, LANES, Lanes};
-
-use crate::processor::Processor;
-use crate::reading::repeated;
 
 /// The accumulator whose lane 0 rotations can go by.
 const R5: usize = 5;

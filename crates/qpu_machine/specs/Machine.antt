@@ -50,7 +50,7 @@ opening_book uniforms = record {
   load = None;
   load_pitch = 0;
   store = None;
-  store_stride = 0
+  store_stride = 0;
 }
 
 -- a processor before any step
@@ -66,28 +66,28 @@ opening_processor q uniforms = record {
   book = opening_book uniforms;
   executed = 0;
   interrupts = 0;
-  halt = Going
+  halt = Going;
 }
 
 -- the machine with one more processor started
 abbrev pub with_start : MachineState → Start → MachineState
 with_start m start = record m {
   program_of = slice_set m.program_of start.q start.program;
-  processors = slice_set m.processors start.q (Some (opening_processor start.q start.uniforms))
+  processors = slice_set m.processors start.q (Some (opening_processor start.q start.uniforms));
 }
 
 -- the machine of a memory, a limit, programs and starts, before any step
 unfoldable pub machine_of : List ℕ → ℕ → List (List ℕ) → List Start → MachineState
 machine_of memory limit programs starts =
     fold with_start
-      (record {
-        limit = limit;
-        programs = programs;
-        program_of = replicate PROCESSORS 0;
-        processors = replicate PROCESSORS None;
-        shared = opening_shared memory
-      })
-      starts
+    (record {
+      limit = limit;
+      programs = programs;
+      program_of = replicate PROCESSORS 0;
+      processors = replicate PROCESSORS None;
+      shared = opening_shared memory;
+    })
+    starts
 
 -- one step of each actor
 
@@ -126,16 +126,16 @@ abbrev pub after_load : SharedState → ℕ → Option Transfer → Option Share
 after_load h q None = None
 after_load h q (Some t) =
     Some (with_pending
-      (record h { vpm = vpm_loaded (transfer_pairs (load_plan t)) h.memory h.vpm })
-      q (record (pending_of h q) { load = None }))
+    (record h { vpm = vpm_loaded (transfer_pairs (load_plan t)) h.memory h.vpm })
+    q (record (pending_of h q) { load = None }))
 
 -- the shared parts after the move of a pending store, where there is one
 abbrev pub after_store : SharedState → ℕ → Option Transfer → Option SharedState
 after_store h q None = None
 after_store h q (Some t) =
     Some (with_pending
-      (record h { memory = memory_stored (transfer_pairs (store_plan t)) h.vpm h.memory })
-      q (record (pending_of h q) { store = None }))
+    (record h { memory = memory_stored (transfer_pairs (store_plan t)) h.vpm h.memory })
+    q (record (pending_of h q) { store = None }))
 
 -- the look-ups after the oldest that isn't fetched has its words, where there is one
 abbrev pub fetched : List ℕ → List LookUp → Option (List LookUp)

@@ -12,6 +12,5 @@ mod unpacking;
 
 pub use packing::pack_into;
 pub use rotation::rotate;
-pub use small::small_code;
-pub use small::small_value;
+pub use small::{small_code, small_value};
 pub use unpacking::unpack;

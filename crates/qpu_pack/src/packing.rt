@@ -10,6 +10,7 @@ const SIGN: u32 = 0x8000_0000;
 
 /// The greatest and least signed half word.
 const HALF_MOST: u32 = 0x7fff;
+
 const HALF_LEAST: u32 = 0xffff_8000;
 
 /// The greatest byte.
@@ -17,6 +18,7 @@ const BYTE_MOST: u32 = 255;
 
 /// The first pack mode that clamps to a half word, and the first that clamps to a byte.
 const CLAMPS: u32 = 8;
+
 const CLAMPS_BYTE: u32 = 11;
 
 /// A signed value kept within a signed half word.
@@ -67,7 +69,11 @@ fn byte_or(replaced: bool, n: u32, old: u32, k: u32) -> u32
     ensures value { result ≡ (if replaced then byte n 0 else byte old k) }
     ensures below { result < 256 }
 {
-    if replaced { byte_of(n, 0) } else { byte_of(old, k) }
+    if replaced {
+        byte_of(n, 0)
+    } else {
+        byte_of(old, k)
+    }
 }
 
 /// A low byte in byte k of an old value.

@@ -6,13 +6,18 @@ const CODES: u32 = 48;
 
 /// The codes from which on the values are -16 to -1, 1.0 to 128.0, and 1/256 to 1/2.
 const NEGATIVE: u32 = 16;
+
 const POWERS: u32 = 32;
+
 const FRACTIONS: u32 = 40;
 
 /// -16, 1.0 and 1/256 as words, and the step from one power of two to the next.
 const MINUS_16: u32 = 0xffff_fff0;
+
 const ONE: u32 = 0x3f80_0000;
+
 const ONE_256TH: u32 = 0x3b80_0000;
+
 const DOUBLED: u32 = 0x0080_0000;
 
 /// The value of a small immediate's code, below 48.

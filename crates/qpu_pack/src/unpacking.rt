@@ -16,7 +16,11 @@ fn extended(half: u32) -> u32
     requires { half < 65536 }
     ensures { result ≡ sign_extended half }
 {
-    if half < HALF_SIGN { half } else { half + SIGN_OVER_32 }
+    if half < HALF_SIGN {
+        half
+    } else {
+        half + SIGN_OVER_32
+    }
 }
 
 /// The high byte in all four bytes.

@@ -117,7 +117,7 @@ ins_of f p h = record {
   vpm = record { v = (if reads f READ_VPM then next_vector p.book.first h.vpm else lanes (λ i. 0)) };
   load_busy = reads_a f READ_DMA_BUSY && is_some (pending_of h p.q).load;
   store_busy = reads_b f READ_DMA_BUSY && is_some (pending_of h p.q).store;
-  loaded = record { v = or_zeros (taken_words f (pending_of h p.q)) }
+  loaded = record { v = or_zeros (taken_words f (pending_of h p.q)) };
 }
 
 -- the book after a uniform read, which moves the uniforms address once
@@ -239,7 +239,7 @@ pending_after f outs starts pending = record {
   load = or_pending starts.load pending.load;
   store = or_pending starts.store pending.store;
   looks0 = after_issue starts.look outs.look_unit 0 (after_take f 0 pending.looks0);
-  looks1 = after_issue starts.look outs.look_unit 1 (after_take f 1 pending.looks1)
+  looks1 = after_issue starts.look outs.look_unit 1 (after_take f 1 pending.looks1);
 }
 
 -- the shared parts after an instruction
@@ -249,7 +249,7 @@ shared_after f p outs starts h = record {
   vpm = vpm_after outs.vpm p.book.writes h.vpm;
   mutex = mutex_after f p.q h.mutex;
   semaphores = semaphores_after f h.semaphores;
-  pending = slice_set h.pending p.q (pending_after f outs starts (pending_of h p.q))
+  pending = slice_set h.pending p.q (pending_after f outs starts (pending_of h p.q));
 }
 
 -- the whole
@@ -262,9 +262,9 @@ instruction_result is_link word p h =
     let outs = outs_of f p ins in
     if branch_fails is_link f p then Err Branch
     else
-      then_after (after_reads f h.memory p.book) (λ book.
-      then_after (after_writes outs h.memory book) (λ starts.
-      Ok (done f p ins starts.book, shared_after f p outs starts h)))
+    then_after (after_reads f h.memory p.book) (λ book.
+    then_after (after_writes outs h.memory book) (λ starts.
+    Ok (done f p ins starts.book, shared_after f p outs starts h)))
 
 -- what an instruction that doesn't await comes to
 abbrev pub outcome_of : Result (ProcessorState × SharedState) FaultKind → Outcome
@@ -291,5 +291,5 @@ unfoldable pub instruction : List ℕ → ℕ → ProcessorState → SharedState
 instruction words limit p h =
     let word = slice_index words p.place in
     if is_running limit p then
-      outcome_under (first_cause (fields_of word) p.q h) (instruction_result (is_link_point words) word p h)
+    outcome_under (first_cause (fields_of word) p.q h) (instruction_result (is_link_point words) word p h)
     else NoStep

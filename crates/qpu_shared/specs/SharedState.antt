@@ -35,5 +35,5 @@ opening_shared memory = record {
   vpm = replicate (VPM_ROWS * VPM_COLUMNS) 0;
   mutex = None;
   semaphores = replicate SEMAPHORES 0;
-  pending = replicate PROCESSORS nothing_pending
+  pending = replicate PROCESSORS nothing_pending;
 }

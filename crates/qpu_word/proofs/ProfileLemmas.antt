@@ -1,5 +1,5 @@
 -- What follows of a word's fields where the word is in the profile.
-use Rattle.std.proofs.Common.{◌≡◌, ◌≢◌, ℕ, zero, suc, ◌+◌, ◌/◌, ◌%◌, ◌^◌, ◌<◌, ◌≤◌, Bool, true, false, not, List, [], ◌∷◌, length, get_or, Option, Some, None, refl, ap, sym, ◌∙◌, arith}
+use Rattle.std.proofs.Common.{◌≡◌, ◌≢◌, ℕ, zero, suc, ◌+◌, ◌/◌, ◌%◌, ◌^◌, ◌<◌, ◌≤◌, Bool, true, false, not, List, [], ◌∷◌, length, get_or, Option, Some, None, refl, ap, sym, subst, ◌∙◌, arith}
 use Rattle.std.specs.Prelude.{find, ◌==◌, ◌&&◌, ◌||◌, if◌then◌else◌}
 use Rattle.std.proofs.Math.Nat.{mod-lt}
 use Rattle.std.proofs.Math.Pow.{pow_pos}
@@ -48,5 +48,9 @@ fit_of_profile w inside = record {
   mul_a = field_below w 3 3;
   mul_b = field_below w 0 3;
   raddr_b = field_below w 12 6;
-  raddr_br = field_below w 45 5
+  raddr_br = field_below w 45 5;
 }
+
+-- the fields of a word of the profile are fit
+pub fit_of_fields : (f : Fields) (w : ℕ) → f ≡ fields_of w → IsInProfile w → IsFit f
+fit_of_fields f w is inside = let P : Fields → Type 0 = IsFit in subst P (sym is) (fit_of_profile w inside)

@@ -252,7 +252,7 @@ outs_from f add mul = record {
   load_at = first_lane (sent_to_a f add mul WRITE_DMA_ADDRESS);
   store_at = first_lane (sent_to_b f add mul WRITE_DMA_ADDRESS);
   look_unit = (if look_address f == WRITE_TMU1_S then 1 else 0);
-  look = as_lanes (sent_to f add mul (look_address f))
+  look = as_lanes (sent_to f add mul (look_address f));
 }
 
 -- what an instruction sends out
@@ -288,17 +288,30 @@ after_setups outs book =
 
 -- the whole
 
--- the processor after an instruction with these reads, which leaves this book
-unfoldable pub done : Fields → ProcessorState → Ins → Book → ProcessorState
-done f p ins book = record (put_loaded f ins (put_mul f (mul_stored f p ins) (put_add f (add_stored f p ins) p))) {
-  flags = flags_after f p ins;
-  place = place_after f p;
-  rest = rest_after f p;
+-- the registers after an instruction: the add unit's write, the mul unit's, and a TMU load
+unfoldable pub registers_after : Fields → ProcessorState → Ins → ProcessorState
+registers_after f p ins = put_loaded f ins (put_mul f (mul_stored f p ins) (put_add f (add_stored f p ins) p))
+
+-- the interrupts that a word raises
+abbrev pub raised_by : Fields → ℕ
+raised_by f = if writes f WRITE_HOST_INT then 1 else 0
+
+-- a processor one instruction further, with these flags, place, rest, book, interrupts and halt
+unfoldable pub moved_on : Flags → ℕ → Rest → Book → ℕ → Halt → ProcessorState → ProcessorState
+moved_on flags place rest book raised halt p = record p {
+  flags = flags;
+  place = place;
+  rest = rest;
   book = book;
   executed = p.executed + 1;
-  interrupts = p.interrupts + (if writes f WRITE_HOST_INT then 1 else 0);
-  halt = halt_after f p;
+  interrupts = p.interrupts + raised;
+  halt = halt;
 }
+
+-- the processor after an instruction with these reads, which leaves this book
+unfoldable pub done : Fields → ProcessorState → Ins → Book → ProcessorState
+done f p ins book =
+    moved_on (flags_after f p ins) (place_after f p) (rest_after f p) book (raised_by f) (halt_after f p) (registers_after f p ins)
 
 -- a processor that faulted at its place
 unfoldable pub halted : FaultKind → ProcessorState → ProcessorState
