@@ -1,6 +1,7 @@
 //! Reading a job of the first form.
 
 mod first_form;
+mod line;
 
 /// Words of the largest memory.
 pub const MOST_MEMORY: u32 = 1_048_576;
