@@ -1,19 +1,20 @@
 -- Reading a job of the first form from its front on: what each function of the reader gives, as a
 -- value and what stands behind it. This project's own.
-use Rattle.std.specs.Prelude.{◌≡◌, ℕ, ◌+◌, ◌==◌, ◌&&◌, ◌||◌, Bool, nat_lt, nat_le, List, [], length, take, drop, codes, Option, Some, None, option_map, if◌then◌else◌}
+use Rattle.std.specs.Prelude.{◌≡◌, ℕ, ◌+◌, ◌==◌, ◌&&◌, ◌||◌, Bool, nat_lt, nat_le, List, [], length, take, drop, codes, Option, Some, None, option_map, if◌then◌else◌, ◌<◌, ◌≤◌, ◌++◌, flat_map, map, All}
 use Rattle.std.specs.List.{prefix_len, list_all}
 use Rattle.std.specs.Option.{option_and_then}
 use Rattle.std.specs.Char.{is_ascii_digit}
 use Rattle.std.specs.Str.{bytes_eq}
 use Rattle.std.specs.Str.Parse.{digits_value}
 use Rattle.std.specs.Borrow.{Bor}
-use Rattle.qpu_word.specs.declared.code.TheConstants.{LIMIT_MOST}
+use Rattle.qpu_word.specs.declared.code.TheConstants.{LIMIT_MOST, PROGRAM_WORDS}
 use Rattle.qpu_word.specs.declared.word.Word.{Word}
 use Rattle.qpu_word.specs.Words.{between}
 use Rattle.qpu_tool.specs.declared.job.TheConstants.{MOST_MEMORY, MOST_DIGITS, MOST_NAME}
 use Rattle.qpu_tool.specs.declared.job.line.TheConstants.{WORD_DIGITS}
-use Rattle.qpu_tool.specs.FirstForm.{is_first_word}
-use Rattle.qpu_tool.specs.Job.{is_name_byte}
+use Rattle.qpu_tool.specs.declared.job.opening.Opening.{Opening as OpeningLines}
+use Rattle.qpu_tool.specs.FirstForm.{is_first_word, IsFirstWord}
+use Rattle.qpu_tool.specs.Job.{is_name_byte, word_line}
 
 -- what stands behind a word at the front of a text
 unfoldable pub after_word : List ℕ → List ℕ → Option (List ℕ)
@@ -86,6 +87,36 @@ unfoldable pub after_closing : List ℕ → List ℕ → Option (List ℕ)
 after_closing name text =
     option_and_then (λ rest. option_and_then (λ rest. after_word (codes " 0\n") rest) (after_word name rest))
     (after_word (codes "endprogram\nstart 0 ") text)
+
+-- lines of words of the first form at the front of a text, and what stands behind them
+pub record IsRun (text words rest : List ℕ) : Type 0 where
+  pub is : text ≡ flat_map word_line words ++ rest
+  pub first : All IsFirstWord words
+
+-- all such lines at the front of a text, where they aren't too many
+pub record IsWholeRun (text words rest : List ℕ) : Type 0 where
+  pub run : IsRun text words rest
+  pub few : length words ≤ PROGRAM_WORDS
+  pub stops : word_at rest ≡ None
+
+-- too many such lines stand at the front of a text
+pub record IsLongRun (text : List ℕ) : Type 0 where
+  pub words : List ℕ
+  pub rest : List ℕ
+  pub run : IsRun text words rest
+  pub long : PROGRAM_WORDS < length words
+
+-- words as their numbers
+abbrev pub word_numbers : List Word → List ℕ
+word_numbers words = map (λ word. word.0) words
+
+-- the lines before the words, as lists
+abbrev pub opening_of : OpeningLines → Opening
+opening_of lines = record { memory = lines.memory; limit = lines.limit; name = lines.name.now; rest = lines.rest.now }
+
+-- a call gave the lines before the words
+abbrev pub OpeningGives : Option OpeningLines → Option Opening → Type 0
+OpeningGives result due = option_map opening_of result ≡ due
 
 -- a call gave a number and the rest of the text
 abbrev pub NumberGives : Option (ℕ × Bor (List ℕ)) → Option (ℕ × List ℕ) → Type 0

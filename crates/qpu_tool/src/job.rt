@@ -2,6 +2,7 @@
 
 mod first_form;
 mod line;
+mod opening;
 
 /// Words of the largest memory.
 pub const MOST_MEMORY: u32 = 1_048_576;
