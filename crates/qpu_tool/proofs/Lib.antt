@@ -1,3 +1,4 @@
 pub mod FirstWords
 pub mod Digits
 pub mod ReadingLaws
+pub mod JobLaws

@@ -1,17 +1,16 @@
 -- What each function of the reader reads is in the grammar, and what is in the grammar is read.
-use Rattle.std.proofs.Common.{◌≡◌, ℕ, zero, suc, ◌+◌, ◌-◌, ◌*◌, ◌^◌, ◌<◌, ◌≤◌, Bool, true, false, List, [], ◌∷◌, ◌++◌, length, take, drop, get_or, Option, Some, None, option_map, refl, ap, sym, ◌∙◌, subst, append_assoc, length-append, arith, cond}
-use Rattle.std.specs.Prelude.{◌==◌, ◌&&◌, ◌||◌, nat_lt, nat_le, codes, All}
+use Rattle.std.proofs.Common.{◌≡◌, ℕ, ◌^◌, ◌<◌, ◌≤◌, Bool, true, false, List, [], ◌∷◌, ◌++◌, length, take, drop, Option, Some, None, option_map, refl, ap, sym, ◌∙◌, subst, append_assoc, length-append, arith, cond}
+use Rattle.std.specs.Prelude.{◌&&◌, nat_lt, nat_le, codes}
 use Rattle.std.specs.List.{list_all, prefix_len, AllPass}
 use Rattle.std.specs.Option.{option_and_then}
 use Rattle.std.specs.Char.{is_ascii_digit}
 use Rattle.std.specs.Str.{bytes_eq}
 use Rattle.std.specs.Str.Parse.{digits_value}
 use Rattle.std.proofs.Math.Seq.{take-append_seam, drop-append_seam}
-use Rattle.std.proofs.lemmas.Bool.{and_parts, and_from, cases_Bool, leb-true, ltb-true, le-leb, lt-ltb, eq-eqb, false≢true}
-use Rattle.std.proofs.lemmas.Bool.Decides.{nat_tests}
+use Rattle.std.proofs.lemmas.Bool.{and_parts, and_from, leb-true, ltb-true, le-leb, lt-ltb}
 use Rattle.std.proofs.lemmas.List.{take-append-drop, take_at, drop_at, length-take-le}
-use Rattle.std.proofs.lemmas.List.Folds.{prefix_len-append, length-prefix_len}
-use Rattle.std.proofs.lemmas.List.Sums.{prefix_len-le-length, AllPass-from_list_all, list_all-from_AllPass}
+use Rattle.std.proofs.lemmas.List.Folds.{length-prefix_len}
+use Rattle.std.proofs.lemmas.List.Sums.{AllPass-from_list_all, list_all-from_AllPass}
 use Rattle.std.proofs.lemmas.Slice.Eq.{bytes_eq-Decides}
 use Rattle.qpu_word.specs.declared.code.TheConstants.{LIMIT_MOST}
 use Rattle.qpu_word.specs.Words.{between}
@@ -130,9 +129,11 @@ number_found text n rest e =
     let found = map_some (λ (run : List ℕ × List ℕ). (digits_value 10 run.0, run.1)) (run_at is_ascii_digit MOST_DIGITS text) (n, rest) e in
     let value : digits_value 10 found.0.0 ≡ n = ap (λ (z : ℕ × List ℕ). z.0) found.2 in
     let behind : found.0.1 ≡ rest = ap (λ (z : ℕ × List ℕ). z.1) found.2 in
-    let run = run_found is_ascii_digit MOST_DIGITS text found.0.0 found.0.1 found.1 in
-    (found.0.0, run.is ∙ ap (λ (z : List ℕ). found.0.0 ++ z) behind,
-      record { some = run.some; at_most = run.at_most; decimal = run.all; value = value })
+    let run = run_found is_ascii_digit MOST_DIGITS text found.0.0 found.0.1 found.1 in (
+      found.0.0,
+      run.is ∙ ap (λ (z : List ℕ). found.0.0 ++ z) behind,
+      record { some = run.some; at_most = run.at_most; decimal = run.all; value = value },
+    )
 
 number_only : (digits : List ℕ) (n : ℕ) (rest : List ℕ) → SpellsNumber digits n
     → number_at (digits ++ (codes "\n" ++ rest)) ≡ Some (n, codes "\n" ++ rest)
@@ -156,7 +157,7 @@ number_line_found word low high text n rest e =
     subst P fourth.0 (record {
       digits = number.0;
       is = word_found word text first.0 first.1
-        ∙ ap (λ (z : List ℕ). word ++ z) (number.1 ∙ ap (λ (z : List ℕ). number.0 ++ z) fourth.1);
+          ∙ ap (λ (z : List ℕ). word ++ z) (number.1 ∙ ap (λ (z : List ℕ). number.0 ++ z) fourth.1);
       spells = number.2;
       at_least = leb-true low second.0.0 range.0;
       at_most = leb-true second.0.0 high range.1;
@@ -181,10 +182,11 @@ name_line_found text name rest e =
     let third = end_found second.0.0 name second.0.1 rest second.2 in
     let run = run_found is_name_byte MOST_NAME first.0 second.0.0 second.0.1 second.1 in
     let P : List ℕ → Type 0 = λ z. IsName z × (text ≡ codes "program " ++ (z ++ (codes "\n" ++ rest))) in
-    subst P third.0
-    ( record { some = run.some; at_most = run.at_most; bytes = run.all }
-    , word_found (codes "program ") text first.0 first.1
-      ∙ ap (λ (z : List ℕ). codes "program " ++ z) (run.is ∙ ap (λ (z : List ℕ). second.0.0 ++ z) third.1) )
+    subst P third.0 (
+      record { some = run.some; at_most = run.at_most; bytes = run.all },
+      word_found (codes "program ") text first.0 first.1
+          ∙ ap (λ (z : List ℕ). codes "program " ++ z) (run.is ∙ ap (λ (z : List ℕ). second.0.0 ++ z) third.1),
+    )
 
 pub name_line_only : (name rest : List ℕ) → IsName name
     → name_line (codes "program " ++ (name ++ (codes "\n" ++ rest))) ≡ Some (name, rest)
@@ -200,8 +202,8 @@ pub record IsOpening (text : List ℕ) (o : Opening) : Type 0 where
   pub memory_digits : List ℕ
   pub limit_digits : List ℕ
   pub is : text ≡ codes "qpujob 1\n" ++ (codes "memory " ++ (memory_digits ++ (codes "\n"
-    ++ (codes "limit " ++ (limit_digits ++ (codes "\n"
-    ++ (codes "program " ++ (o.name ++ (codes "\n" ++ o.rest)))))))))
+      ++ (codes "limit " ++ (limit_digits ++ (codes "\n"
+      ++ (codes "program " ++ (o.name ++ (codes "\n" ++ o.rest)))))))))
   pub spells_memory : SpellsNumber memory_digits o.memory
   pub spells_limit : SpellsNumber limit_digits o.limit
   pub is_name : IsName o.name
@@ -223,9 +225,9 @@ opening_found text o e =
       memory_digits = memory.digits;
       limit_digits = limit.digits;
       is = word_found (codes "qpujob 1\n") text first.0 first.1
-        ∙ ap (λ (z : List ℕ). codes "qpujob 1\n" ++ z)
+          ∙ ap (λ (z : List ℕ). codes "qpujob 1\n" ++ z)
           (memory.is ∙ ap (λ (z : List ℕ). codes "memory " ++ (memory.digits ++ (codes "\n" ++ z)))
-            (limit.is ∙ ap (λ (z : List ℕ). codes "limit " ++ (limit.digits ++ (codes "\n" ++ z))) name.1));
+          (limit.is ∙ ap (λ (z : List ℕ). codes "limit " ++ (limit.digits ++ (codes "\n" ++ z))) name.1));
       spells_memory = memory.spells;
       spells_limit = limit.spells;
       is_name = name.0;
@@ -261,9 +263,10 @@ hex_found text w rest e =
     let long : length ds ≡ 16 = length-take-le 16 text (leb-true 16 (length text) tests.0) in
     let same : hex16 w ≡ ds = ap hex16 (sym value) ∙ hex16_of_value ds long tests.1 in
     let below : digits_value 16 ds < 16 ^ length ds = digits_value-lt 16 ds (hexadecimal_digits ds tests.1) in
-    let fits : digits_value 16 ds < 16 ^ 16 = subst (λ k. digits_value 16 ds < 16 ^ k) long below in
-    ( sym (take-append-drop 16 text) ∙ (ap (λ (z : List ℕ). z ++ drop 16 text) (sym same) ∙ ap (λ (z : List ℕ). hex16 w ++ z) behind)
-    , subst (λ v. v < 2 ^ 64) value fits )
+    let fits : digits_value 16 ds < 16 ^ 16 = subst (λ k. digits_value 16 ds < 16 ^ k) long below in (
+      sym (take-append-drop 16 text) ∙ (ap (λ (z : List ℕ). z ++ drop 16 text) (sym same) ∙ ap (λ (z : List ℕ). hex16 w ++ z) behind),
+      subst (λ v. v < 2 ^ 64) value fits,
+    )
 
 hex_only : (w : ℕ) (rest : List ℕ) → w < 2 ^ 64 → hex_at (hex16 w ++ rest) ≡ Some (w, rest)
 unfolding hex_at
@@ -287,11 +290,12 @@ line_found text w rest e =
     let fourth = end_found second.0.0 w second.0.1 rest third.1 in
     let hex = hex_found first.0 second.0.0 second.0.1 second.1 in
     let P : ℕ → Type 0 = λ z. IsFirstWord z × (text ≡ word_line z ++ rest) in
-    subst P fourth.0
-    ( record { fits = hex.1; form = third.0 }
-    , word_found (codes ".word 0x") text first.0 first.1
-      ∙ (ap (λ (z : List ℕ). codes ".word 0x" ++ z) (hex.0 ∙ ap (λ (z : List ℕ). hex16 second.0.0 ++ z) fourth.1)
-      ∙ sym (line_is second.0.0 rest)) )
+    subst P fourth.0 (
+      record { fits = hex.1; form = third.0 },
+      word_found (codes ".word 0x") text first.0 first.1
+          ∙ (ap (λ (z : List ℕ). codes ".word 0x" ++ z) (hex.0 ∙ ap (λ (z : List ℕ). hex16 second.0.0 ++ z) fourth.1)
+          ∙ sym (line_is second.0.0 rest)),
+    )
 
 pub line_only : (w : ℕ) (rest : List ℕ) → IsFirstWord w → word_at (word_line w ++ rest) ≡ Some (w, rest)
 unfolding word_at
@@ -310,7 +314,7 @@ closing_found name text rest e =
     let second = then_some _ (after_word name first.0) rest first.2 in
     word_found (codes "endprogram\nstart 0 ") text first.0 first.1
     ∙ ap (λ (z : List ℕ). codes "endprogram\nstart 0 " ++ z)
-      (word_found name first.0 second.0 second.1 ∙ ap (λ (z : List ℕ). name ++ z) (word_found (codes " 0\n") second.0 rest second.2))
+    (word_found name first.0 second.0 second.1 ∙ ap (λ (z : List ℕ). name ++ z) (word_found (codes " 0\n") second.0 rest second.2))
 
 pub closing_only : (name rest : List ℕ)
     → after_closing name (codes "endprogram\nstart 0 " ++ (name ++ (codes " 0\n" ++ rest))) ≡ Some rest

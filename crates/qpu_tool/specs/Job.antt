@@ -54,12 +54,17 @@ pub record IsName (name : List ℕ) : Type 0 where
   pub at_most : length name ≤ MOST_NAME
   pub bytes : AllPass is_name_byte name
 
--- a program of the first form: just the third word from the end is a program end
+-- just the third word from the end is a program end
+abbrev pub EndsThirdFromLast : List ℕ → Type 0
+EndsThirdFromLast code =
+    EachIndex code (λ k. is_program_end (fields_of (slice_index code k)) ≡ (k + FEWEST_WORDS == length code))
+
+-- a program of the first form: three to 4,096 words of the form, ended by the third from the end
 pub record IsFirstProgram (code : List ℕ) : Type 0 where
   pub at_least : FEWEST_WORDS ≤ length code
   pub at_most : length code ≤ PROGRAM_WORDS
   pub words : All IsFirstWord code
-  pub ends : EachIndex code (λ k. is_program_end (fields_of (slice_index code k)) ≡ (k + FEWEST_WORDS == length code))
+  pub ends : EndsThirdFromLast code
 
 -- a text is a job of the first form that asks for this plan
 pub record IsJob (text : List ℕ) (plan : Plan) : Type 0 where

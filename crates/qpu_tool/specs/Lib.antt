@@ -1,3 +1,4 @@
 pub mod FirstForm
 pub mod Job
 pub mod Reading
+pub mod Plans

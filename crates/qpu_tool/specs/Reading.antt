@@ -1,6 +1,6 @@
 -- Reading a job of the first form from its front on: what each function of the reader gives, as a
 -- value and what stands behind it. This project's own.
-use Rattle.std.specs.Prelude.{◌≡◌, ℕ, ◌+◌, ◌==◌, ◌&&◌, ◌||◌, Bool, nat_lt, nat_le, List, [], length, take, drop, codes, Option, Some, None, option_map, if◌then◌else◌, ◌<◌, ◌≤◌, ◌++◌, flat_map, map, All}
+use Rattle.std.specs.Prelude.{◌≡◌, ℕ, ◌&&◌, ◌||◌, Bool, nat_lt, nat_le, List, length, take, drop, codes, Option, Some, None, option_map, if◌then◌else◌, ◌<◌, ◌≤◌, ◌++◌, flat_map, map, All}
 use Rattle.std.specs.List.{prefix_len, list_all}
 use Rattle.std.specs.Option.{option_and_then}
 use Rattle.std.specs.Char.{is_ascii_digit}
@@ -38,7 +38,7 @@ line_end_at value text = option_map (λ rest. (value, rest)) (after_word (codes 
 unfoldable pub number_line : List ℕ → ℕ → ℕ → List ℕ → Option (ℕ × List ℕ)
 number_line word low high text =
     option_and_then (λ rest. option_and_then (λ number.
-      if between low number.0 high then line_end_at number.0 number.1 else None) (number_at rest)) (after_word word text)
+    if between low number.0 high then line_end_at number.0 number.1 else None) (number_at rest)) (after_word word text)
 
 -- the program's name behind its word, on a line
 unfoldable pub name_line : List ℕ → Option (List ℕ × List ℕ)
@@ -80,7 +80,7 @@ hex_at text =
 unfoldable pub word_at : List ℕ → Option (ℕ × List ℕ)
 word_at text =
     option_and_then (λ rest. option_and_then (λ word.
-      if is_first_word word.0 then line_end_at word.0 word.1 else None) (hex_at rest)) (after_word (codes ".word 0x") text)
+    if is_first_word word.0 then line_end_at word.0 word.1 else None) (hex_at rest)) (after_word (codes ".word 0x") text)
 
 -- what stands behind the lines after the words
 unfoldable pub after_closing : List ℕ → List ℕ → Option (List ℕ)

@@ -29,5 +29,10 @@ pub fn opening_at(text: &[u8]) -> Option<Opening<'_>>
     let (memory, rest) = number_line(b"memory ", 1, MOST_MEMORY, rest)?;
     let (limit, rest) = number_line(b"limit ", 0, LIMIT_MOST, rest)?;
     let (name, rest) = name_line(rest)?;
-    Some(Opening { memory, limit, name, rest })
+    Some(Opening {
+        memory,
+        limit,
+        name,
+        rest,
+    })
 }

@@ -1,6 +1,6 @@
 -- The digits pass the test.
 use Rattle.qpu_tool.proofs.Digits.{hexadecimal_digits}
-use Rattle.std.proofs.Common.{rules, sym, ◌∙◌}
+use Rattle.std.proofs.Common.{rules}
 use Rattle.qpu_tool.proofs.job.line.hex_at.Goals as goal
 
 pub value_of-requires-clause-digits : goal.value_of-requires-clause-digits

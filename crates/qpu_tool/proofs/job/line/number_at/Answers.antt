@@ -1,5 +1,4 @@
 -- The digits pass the test.
-use Rattle.std.proofs.Common.{rules}
 use Rattle.qpu_tool.proofs.Digits.{decimal_front, decimal_front_lower}
 use Rattle.qpu_tool.proofs.job.line.number_at.Goals as goal
 

@@ -1,5 +1,5 @@
 -- One more digit: the value still fits, and is of one digit more.
-use Rattle.std.proofs.Common.{◌≡◌, ◌<◌, ◌+◌, ◌*◌, ◌^◌, length, sym, arith, rules}
+use Rattle.std.proofs.Common.{◌<◌, length, sym, arith}
 use Rattle.std.proofs.lemmas.Int.Digits.{digits_value_more}
 use Rattle.qpu_tool.proofs.Digits.{value_fits}
 use Rattle.qpu_tool.proofs.job.line.value_of.Goals as goal
