@@ -15,6 +15,7 @@ use Rattle.qpu_word.specs.Lanes.{lanes}
 use Rattle.qpu_word.specs.Words.{fields_of, reads, reads_a, reads_b, writes, writes_a, writes_b, is_tmu_load, is_semaphore, is_shared, is_local, add_writes, mul_writes}
 use Rattle.qpu_word.specs.Processor.{ProcessorState}
 use Rattle.qpu_word.specs.Instruction.{sent_to, sent_to_a, sent_to_b, first_lane, as_lanes, look_address, outs_from, outs_of, after_setups, after_uniform_to, then_after, branch_fails, done, no_ins, local_result, is_link_point, add_sent, mul_sent}
+use Rattle.qpu_word.proofs.StepLemmas.{or_left, or_right, no_write_a, no_write_b, nothing_sent}
 use Rattle.qpu_shared.specs.declared.cause.Cause.{Cause}
 use Rattle.qpu_shared.specs.declared.cause.Cause.TheVariants.{LoadWait, StoreWait, LoadStart, StoreStart, TmuLoad, Mutex, Up, Down}
 use Rattle.qpu_shared.specs.SharedState.{SharedState, Pending}
@@ -38,30 +39,6 @@ pub record IsAlone (f : Fields) : Type 0 where
   pub take0 : is_tmu_load f 0 ≡ false
   pub take1 : is_tmu_load f 1 ≡ false
   pub semaphore : is_semaphore f ≡ false
-
-or_left : (a b : Bool) → (a || b) ≡ false → a ≡ false
-or_left false b h = refl
-or_left true b h = absurd (cc)
-
-or_right : (a b : Bool) → (a || b) ≡ false → b ≡ false
-or_right false b h = h
-or_right true b h = absurd (cc)
-
--- either of two tests, where none of them holds
-neither : (first a b : Bool) → (a || b) ≡ false → (if first then b else a) ≡ false
-neither true a b none = or_right a b none
-neither false a b none = or_left a b none
-
-neither' : (first a b : Bool) → (a || b) ≡ false → (if first then a else b) ≡ false
-neither' true a b none = or_left a b none
-neither' false a b none = or_right a b none
-
--- where neither unit writes an address, the unit of a file doesn't
-no_write_a : (f : Fields) (address : ℕ) → writes f address ≡ false → writes_a f address ≡ false
-no_write_a f address none = neither (f.ws == 1) _ _ none
-
-no_write_b : (f : Fields) (address : ℕ) → writes f address ≡ false → writes_b f address ≡ false
-no_write_b f address none = neither' (f.ws == 1) _ _ none
 
 -- a list of tests none of which holds
 all_false : (a b c d e g h i j k l m n : Bool) → (a || b || c || d || e || g || h || i || j || k || l || m || n) ≡ false
@@ -128,12 +105,8 @@ no_read_book f memory book a = rw (a.uniform, a.vpm) refl
 
 -- what it sends out
 
-no_send : (a b c d : Bool) (add mul : List ℕ) → ((a && b) || (c && d)) ≡ false → ◌≡◌ {A = Option (List ℕ)} (if c && d then Some mul else if a && b then Some add else None) None
-no_send a b c d add mul none = rw (or_right (a && b) (c && d) none, or_left (a && b) (c && d) none) refl
-
-no_vector : (f : Fields) (add mul : List ℕ) → IsAlone f → sent_to f add mul WRITE_VPM ≡ None
-unfolding sent_to
-no_vector f add mul a = no_send (add_writes f) (f.waddr_add == WRITE_VPM) (mul_writes f) (f.waddr_mul == WRITE_VPM) add mul a.to_vpm
+no_vector : (f : Fields) (add mul : List ℕ) → IsAlone f → ◌≡◌ {A = Option (List ℕ)} (sent_to f add mul WRITE_VPM) None
+no_vector f add mul a = nothing_sent f add mul WRITE_VPM a.to_vpm
 
 no_start_a : (f : Fields) (add mul : List ℕ) → IsAlone f → sent_to_a f add mul WRITE_DMA_ADDRESS ≡ None
 unfolding sent_to_a
