@@ -4,7 +4,7 @@ use Rattle.std.specs.Prelude.{◌==◌, if◌then◌else◌, slice_index, slice_
 use Rattle.qpu_word.specs.declared.code.TheConstants.{PROCESSORS}
 use Rattle.qpu_word.specs.declared.state.Halt.TheVariants.{Going, Ended}
 use Rattle.qpu_word.specs.Words.{fields_of, is_local}
-use Rattle.qpu_word.specs.Processor.{ProcessorState}
+use Rattle.qpu_word.specs.Processor.{ProcessorState, opening_processor}
 use Rattle.qpu_word.specs.Instruction.{local_result, is_link_point}
 use Rattle.qpu_shared.specs.SharedState.{SharedState, Pending, LookUp, nothing_pending, opening_shared}
 use Rattle.qpu_shared.specs.Instruction.{is_running, instruction, pending_of, looks_of}
@@ -12,7 +12,7 @@ use Rattle.qpu_machine.specs.declared.actor.Actor.{Actor}
 use Rattle.qpu_machine.specs.declared.actor.Actor.TheVariants.{Exec, Load, Store, Fetch}
 use Rattle.qpu_machine.specs.declared.conclusion.Ending.TheVariants.{Done}
 use Rattle.qpu_machine.specs.declared.start.Start.{Start}
-use Rattle.qpu_machine.specs.Machine.{MachineState, machine_of, opening_processor, processor_of, words_of, with_both, after_step, Step}
+use Rattle.qpu_machine.specs.Machine.{MachineState, machine_of, processor_of, words_of, with_both, after_step, Step}
 use Rattle.qpu_machine.specs.Ending.{IsFinal, ending_of}
 use Rattle.qpu_machine.specs.Serial.{has_local_step}
 use Rattle.qpu_machine.proofs.RunLemmas.{Ran, begun, one_more, IsAtLocal, local_step, local_enabled}
