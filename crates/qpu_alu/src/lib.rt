@@ -11,3 +11,6 @@ mod mul;
 pub use add::add_unit;
 pub use mul::mul_unit;
 pub use qpu_word::{AddOp, MulOp};
+
+#[cfg(test)]
+mod tests;

@@ -1,2 +1,1 @@
 pub mod UnitLemmas
-pub mod Kept

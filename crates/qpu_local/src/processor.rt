@@ -1,5 +1,6 @@
 ghost use Rattle.std.specs.Prelude.{◌≡◌, ◌<◌, if◌then◌else◌};
 ghost use Rattle.qpu_word.specs.Operands.{row_of};
+ghost use Rattle.qpu_word.specs.Processor.{opening_book, opening_processor};
 
 use qpu_word::{Book, Flags, Halt, LANES, Lanes, Rest};
 use std::marker::Model;
@@ -27,6 +28,22 @@ pub struct Processor {
     pub(crate) halt: Halt,
 }
 
+/// A book in which nothing was given but the uniforms address.
+fn opening_book(uniforms: u32) -> Book
+    ensures { result ≡ opening_book uniforms }
+{
+    Book {
+        uniform_at: uniforms,
+        first: None,
+        second: None,
+        writes: None,
+        load: None,
+        load_pitch: 0,
+        store: None,
+        store_stride: 0,
+    }
+}
+
 impl Model for Processor {
     ghost use Rattle.qpu_word.specs.Processor.{ProcessorState};
 
@@ -42,6 +59,27 @@ impl Model for Processor {
 }
 
 impl Processor {
+    /// Processor q before any step, with the byte address of its uniforms: all registers are 0.
+    #[tactic(auto, unfolding(qpu_word::specs::Processor::opening_processor, qpu_word::specs::Lanes::lanes))]
+    pub fn new(q: u32, uniforms: u32) -> Processor
+        requires { q < 12 }
+        ensures { result ≡ opening_processor q uniforms }
+    {
+        Processor {
+            q,
+            file_a: [[0; LANES]; ROWS],
+            file_b: [[0; LANES]; ROWS],
+            accumulators: [[0; LANES]; ACCUMULATORS],
+            flags: Flags { zn: None, c: None },
+            place: 0,
+            rest: Rest::Straight,
+            book: opening_book(uniforms),
+            executed: 0,
+            interrupts: 0,
+            halt: Halt::Going,
+        }
+    }
+
     /// The number, below 12.
     pub fn q(&self) -> u32
         ensures { result ≡ self.now.q }

@@ -96,7 +96,7 @@ impl Processor {
     }
 
     /// Does the whole instruction, with what it read, what it sends and its new book.
-    #[tactic(auto, unfolding(qpu_word::specs::Instruction::done), using(crate::proofs::Kept::executed_kept))]
+    #[tactic(auto, unfolding(qpu_word::specs::Instruction::done), using(qpu_word::proofs::KeptLemmas::executed_kept))]
     fn finish(&mut self, f: &Fields, ins: &Ins, sent: &Sent, book: Book)
         requires fit { IsFit f.now }
         requires executed { self.old.executed < 1000000 }

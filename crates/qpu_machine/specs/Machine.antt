@@ -1,12 +1,8 @@
 -- The machine, and one actor's step. That DMA moves and look-up moves are steps of their own is
 -- this project's own.
 use Rattle.std.specs.Prelude.{◌≡◌, ℕ, ◌+◌, ◌*◌, ◌/◌, ◌%◌, ◌==◌, Bool, true, false, nat_lt, List, [], ◌∷◌, ◌++◌, map, replicate, fold, Option, Some, None, is_some, slice_get, slice_index, slice_index_or, slice_set, if◌then◌else◌}
-use Rattle.qpu_word.specs.declared.setup.Book.{Book}
-use Rattle.qpu_word.specs.declared.state.Rest.TheVariants.{Straight}
-use Rattle.qpu_word.specs.declared.state.Halt.TheVariants.{Going}
-use Rattle.qpu_word.specs.declared.code.TheConstants.{PROCESSORS, ROWS, VPM_COLUMNS}
-use Rattle.qpu_word.specs.Lanes.{lanes}
-use Rattle.qpu_word.specs.Processor.{ProcessorState}
+use Rattle.qpu_word.specs.declared.code.TheConstants.{PROCESSORS}
+use Rattle.qpu_word.specs.Processor.{ProcessorState, opening_processor}
 use Rattle.qpu_vpm.specs.Cells.{cell}
 use Rattle.qpu_dma.specs.declared.Pair.{Pair}
 use Rattle.qpu_dma.specs.Transfers.{Transfer, Plan, load_plan, store_plan, transfer_pairs}
@@ -35,39 +31,6 @@ abbrev pub words_of : MachineState → ℕ → List ℕ
 words_of m q = slice_index_or m.programs (slice_index m.program_of q) []
 
 -- the machine before any step
-
--- a row of zeros
-abbrev pub clear_row : List ℕ
-clear_row = lanes (λ i. 0)
-
--- a book in which nothing was given but the uniforms address
-abbrev pub opening_book : ℕ → Book
-opening_book uniforms = record {
-  uniform_at = uniforms;
-  first = None;
-  second = None;
-  writes = None;
-  load = None;
-  load_pitch = 0;
-  store = None;
-  store_stride = 0;
-}
-
--- a processor before any step
-unfoldable pub opening_processor : ℕ → ℕ → ProcessorState
-opening_processor q uniforms = record {
-  q = q;
-  file_a = replicate ROWS clear_row;
-  file_b = replicate ROWS clear_row;
-  accumulators = replicate 6 clear_row;
-  flags = record { zn = None; c = None };
-  place = 0;
-  rest = Straight;
-  book = opening_book uniforms;
-  executed = 0;
-  interrupts = 0;
-  halt = Going;
-}
 
 -- the machine with one more processor started
 abbrev pub with_start : MachineState → Start → MachineState

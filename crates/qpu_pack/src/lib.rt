@@ -14,3 +14,6 @@ pub use packing::pack_into;
 pub use rotation::rotate;
 pub use small::{small_code, small_value};
 pub use unpacking::unpack;
+
+#[cfg(test)]
+mod tests;

@@ -1,12 +1,12 @@
 -- What follows of a word that is of the first form: it is in the profile, local and no branch.
-use Rattle.std.proofs.Common.{◌≡◌, ℕ, ◌≤◌, Bool, true, false, List, [], ◌∷◌, None, refl, ◌∙◌, ◌⊎◌, inl, inr, arith}
-use Rattle.std.specs.Prelude.{find, nat_le, ◌==◌, ◌&&◌, ◌||◌}
+use Rattle.std.proofs.Common.{◌≡◌, ℕ, ◌<◌, ◌≤◌, Bool, true, false, not, List, [], ◌∷◌, Option, Some, None, refl, ap, sym, ◌∙◌, ◌⊎◌, inl, inr, arith}
+use Rattle.std.specs.Prelude.{find, nat_le, ◌==◌, ◌&&◌, ◌||◌, if◌then◌else◌}
 use Rattle.std.proofs.lemmas.Bool.{and_parts, or_cases, eqb-true, leb-true}
 use Rattle.std.proofs.lemmas.Bool.Decides.{nat_tests}
 use Rattle.qpu_word.specs.declared.word.Fields.{Fields}
 use Rattle.qpu_word.specs.declared.fault.WordFault.{WordFault}
 use Rattle.qpu_word.specs.declared.fault.WordFault.TheVariants.{Signal, FloatOp, ReservedOp, ReadAddress, WriteAddress, Packing, BranchCond, LoadKind, Rotation, SemaphoreTarget, NoSource}
-use Rattle.qpu_word.specs.Words.{fields_of, has_fault, all_faults, word_fault, is_shared, is_local, is_branch}
+use Rattle.qpu_word.specs.Words.{fields_of, has_fault, all_faults, word_fault, is_shared, is_local, is_branch, is_program_end, writes, add_writes, mul_writes}
 use Rattle.qpu_tool.specs.FirstForm.{packs_nothing, keeps_flags_and_files, mul_writes_nothing, mul_rests, reads_no_row, add_rests, add_computes, is_accumulator, is_first_alu, is_first_load, is_first_word}
 
 -- what an arithmetic word of the first form is
@@ -40,8 +40,8 @@ record Load (f : Fields) : Type 0 where
 
 first_add : (f : Fields) → (add_rests f || add_computes f) ≡ true
     → ((f.op_add ≡ 0) ⊎ ((f.op_add ≡ 12) ⊎ (f.op_add ≡ 21)))
-    × (((32 ≤ f.waddr_add) × (f.waddr_add ≤ 35)) ⊎ (f.waddr_add ≡ 39))
-    × (f.add_a ≤ 3) × (f.add_b ≤ 3)
+      × (((32 ≤ f.waddr_add) × (f.waddr_add ≤ 35)) ⊎ (f.waddr_add ≡ 39))
+      × (f.add_a ≤ 3) × (f.add_b ≤ 3)
 first_add f e = (grind (arith, nat_tests), grind (arith, nat_tests), grind (arith, nat_tests), grind (arith, nat_tests))
 
 six : (a b c d g h : Bool) → (a && b && c && d && g && h) ≡ true
@@ -66,7 +66,7 @@ rows_of f e = (grind (arith, nat_tests), grind (arith, nat_tests))
 alu_of : (f : Fields) → is_first_alu f ≡ true → Alu f
 alu_of f e =
     let parts = six ((f.sig == 1) || (f.sig == 3)) (packs_nothing f) (keeps_flags_and_files f) (mul_rests f)
-    (reads_no_row f) (add_rests f || add_computes f) e in
+      (reads_no_row f) (add_rests f || add_computes f) e in
     let packing = packing_of f parts.1 in
     let mul = mul_of f parts.3 in
     let rows = rows_of f parts.4 in
@@ -91,7 +91,7 @@ alu_of f e =
 load_of : (f : Fields) → f.kind ≡ f.unpack → is_first_load f ≡ true → Load f
 load_of f kind e =
     let parts = six (f.sig == 14) (packs_nothing f) (keeps_flags_and_files f) (f.cond_add == 1)
-    (is_accumulator f.waddr_add) (mul_writes_nothing f) e in
+      (is_accumulator f.waddr_add) (mul_writes_nothing f) e in
     record {
       sig = eqb-true f.sig 14 parts.0;
       kind = kind ∙ (packing_of f parts.1).0;
@@ -154,10 +154,9 @@ first_cases w e =
 pub first_word_profile : (w : ℕ) → is_first_word w ≡ true → word_fault w ≡ None
 unfolding word_fault
 first_word_profile w e =
-    elim (first_cases w e) [
-      | inl alu ↦ none_found (has_fault (fields_of w)) all_faults (λ fault. alu_faults (fields_of w) fault alu)
-      | inr load ↦ none_found (has_fault (fields_of w)) all_faults (λ fault. load_faults (fields_of w) fault load)
-    ]
+    elim (first_cases w e)
+    [ inl alu ↦ none_found (has_fault (fields_of w)) all_faults (λ fault. alu_faults (fields_of w) fault alu)
+    | inr load ↦ none_found (has_fault (fields_of w)) all_faults (λ fault. load_faults (fields_of w) fault load) ]
 
 -- it touches its processor alone
 pub first_word_local : (w : ℕ) → is_first_word w ≡ true → is_local (fields_of w) ≡ true
@@ -169,3 +168,21 @@ pub first_word_not_branch : (w : ℕ) → is_first_word w ≡ true → is_branch
 first_word_not_branch w e =
     elim (first_cases w e)
     [ inl alu ↦ grind (arith, nat_tests, alu.sig) | inr load ↦ rw load.sig refl ]
+
+-- a unit that goes to another address doesn't write this one
+elsewhere : (writes : Bool) (address other : ℕ) → address < other → (writes && (address == other)) ≡ false
+elsewhere writes address other below = let e : (address == other) ≡ false = grind (arith, nat_tests) in grind (arith, e)
+
+writes_elsewhere : (f : Fields) (address : ℕ) → f.waddr_add < address → f.waddr_mul < address → writes f address ≡ false
+writes_elsewhere f address add mul =
+    rw (elsewhere (add_writes f) f.waddr_add address add, elsewhere (mul_writes f) f.waddr_mul address mul) refl
+
+alu_below : (f : Fields) → Alu f → f.waddr_add < 40
+alu_below f w = grind (arith, w.waddr_add)
+
+-- it writes no address above 39
+pub first_word_writes : (w : ℕ) (address : ℕ) → 40 ≤ address → is_first_word w ≡ true → writes (fields_of w) address ≡ false
+first_word_writes w address high e =
+    elim (first_cases w e)
+    [ inl alu ↦ writes_elsewhere (fields_of w) address (omega (arith, high, alu_below (fields_of w) alu)) (omega (arith, high, alu.waddr_mul))
+    | inr load ↦ writes_elsewhere (fields_of w) address (omega (arith, high, load.at_most)) (omega (arith, high, load.waddr_mul)) ]

@@ -2,3 +2,4 @@ pub mod FirstWords
 pub mod Digits
 pub mod ReadingLaws
 pub mod JobLaws
+pub mod StraightLemmas

@@ -5,3 +5,8 @@
 #![tactic(auto)]
 
 mod job;
+mod plain;
+mod status;
+
+pub use plain::MOST_INPUT;
+pub use status::Status;

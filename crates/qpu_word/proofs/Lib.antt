@@ -1,2 +1,4 @@
+pub mod KeptLemmas
 pub mod LaneLemmas
 pub mod ProfileLemmas
+pub mod StepLemmas

@@ -33,6 +33,9 @@ pub const MUX_FILE_B: u32 = 7;
 /// How many rows a file has; the addresses below it are rows.
 pub const ROWS: u32 = 32;
 
+/// How many accumulators there are, r0 to r5.
+pub const ACCUMULATORS: u32 = 6;
+
 /// The address of both directions that reads and writes nothing.
 pub const NOWHERE: u32 = 39;
 
