@@ -1,21 +1,19 @@
 -- A machine in which processor 0 is the only one, at the shared parts before any step.
-use Rattle.std.proofs.Common.{◌≡◌, ℕ, zero, suc, ◌+◌, ◌<◌, Bool, true, false, List, [], ◌∷◌, length, get_or, replicate, Option, Some, None, Result, Ok, Err, refl, ap, sym, subst, ◌∙◌, arith}
+use Rattle.std.proofs.Common.{◌≡◌, ℕ, zero, suc, ◌+◌, Bool, true, false, List, [], ◌∷◌, replicate, Option, Some, None, Ok, refl, sym, subst, arith}
 use Rattle.std.specs.Prelude.{◌==◌, if◌then◌else◌, slice_index, slice_index_or}
 use Rattle.qpu_word.specs.declared.code.TheConstants.{PROCESSORS}
-use Rattle.qpu_word.specs.declared.state.Halt.TheVariants.{Going, Ended}
+use Rattle.qpu_word.specs.declared.state.Halt.TheVariants.{Ended}
 use Rattle.qpu_word.specs.Words.{fields_of, is_local}
 use Rattle.qpu_word.specs.Processor.{ProcessorState, opening_processor}
 use Rattle.qpu_word.specs.Instruction.{local_result, is_link_point}
-use Rattle.qpu_shared.specs.SharedState.{SharedState, Pending, LookUp, nothing_pending, opening_shared}
+use Rattle.qpu_shared.specs.SharedState.{LookUp, nothing_pending, opening_shared}
 use Rattle.qpu_shared.specs.Instruction.{is_running, instruction, pending_of, looks_of}
-use Rattle.qpu_machine.specs.declared.actor.Actor.{Actor}
 use Rattle.qpu_machine.specs.declared.actor.Actor.TheVariants.{Exec, Load, Store, Fetch}
 use Rattle.qpu_machine.specs.declared.conclusion.Ending.TheVariants.{Done}
 use Rattle.qpu_machine.specs.declared.start.Start.{Start}
-use Rattle.qpu_machine.specs.Machine.{MachineState, machine_of, processor_of, words_of, with_both, after_step, Step}
+use Rattle.qpu_machine.specs.Machine.{MachineState, machine_of, after_step}
 use Rattle.qpu_machine.specs.Ending.{IsFinal, ending_of}
-use Rattle.qpu_machine.specs.Serial.{has_local_step}
-use Rattle.qpu_machine.proofs.RunLemmas.{Ran, begun, one_more, IsAtLocal, local_step, local_enabled}
+use Rattle.qpu_machine.proofs.RunLemmas.{Ran, one_more, IsAtLocal, local_step, local_enabled}
 
 -- processor 0 with one program, alone
 abbrev pub alone : List ℕ → ℕ → List ℕ → ProcessorState → MachineState
@@ -24,7 +22,7 @@ alone memory limit code p = record {
   programs = code ∷ [];
   program_of = replicate PROCESSORS 0;
   processors = Some p ∷ replicate 11 None;
-  shared = opening_shared memory
+  shared = opening_shared memory;
 }
 
 -- the start of processor 0 at program 0
@@ -33,7 +31,7 @@ first_start uniforms = record { q = 0; program = 0; uniforms = uniforms }
 
 -- it is what a machine of one start begins as
 pub opening_alone : (memory : List ℕ) (limit : ℕ) (code : List ℕ) (uniforms : ℕ)
-  → machine_of memory limit (code ∷ []) (first_start uniforms ∷ []) ≡ alone memory limit code (opening_processor 0 uniforms)
+    → machine_of memory limit (code ∷ []) (first_start uniforms ∷ []) ≡ alone memory limit code (opening_processor 0 uniforms)
 unfolding machine_of
 opening_alone memory limit code uniforms = refl
 
@@ -72,10 +70,10 @@ ending_alone memory limit code p ended = rw ended refl
 
 -- one more local step of processor 0
 pub ran_alone : (memory : List ℕ) (limit : ℕ) (code : List ℕ) (first p after : ProcessorState) (i : ℕ)
-  → is_running limit p ≡ true → is_local (fields_of (slice_index code p.place)) ≡ true
-  → local_result (is_link_point code) (slice_index code p.place) p ≡ Ok after
-  → Ran 0 (alone memory limit code first) i (alone memory limit code p)
-  → Ran 0 (alone memory limit code first) (i + 1) (alone memory limit code after)
+    → is_running limit p ≡ true → is_local (fields_of (slice_index code p.place)) ≡ true
+    → local_result (is_link_point code) (slice_index code p.place) p ≡ Ok after
+    → Ran 0 (alone memory limit code first) i (alone memory limit code p)
+    → Ran 0 (alone memory limit code first) (i + 1) (alone memory limit code after)
 ran_alone memory limit code first p after i runs local does ran =
     let at : IsAtLocal (alone memory limit code p) 0 p after = record { there = refl; runs = runs; local = local; does = does } in
     let e : i + 1 ≡ suc i = omega arith in

@@ -1,24 +1,18 @@
 -- Runs of local words by one processor, and machines in which nothing can move.
-use Rattle.std.proofs.Common.{◌≡◌, ℕ, zero, suc, ◌+◌, ◌<◌, ◌≤◌, Bool, true, false, List, [], ◌∷◌, ◌++◌, length, get_or, replicate, Option, Some, None, Result, Ok, Err, refl, ap, sym, subst, ◌∙◌, arith, append-nil}
-use Rattle.std.proofs.Math.ListN.{set}
-use Rattle.std.proofs.lemmas.List.{set-get_or, get_or-set_same}
-use Rattle.std.specs.Prelude.{◌==◌, ◌&&◌, is_some, slice_index, slice_index_or, slice_set}
+use Rattle.std.proofs.Common.{◌≡◌, ℕ, zero, suc, ◌+◌, true, false, List, [], ◌∷◌, ◌++◌, replicate, Some, Ok, refl, ap, subst, arith, append-nil}
+use Rattle.std.specs.Prelude.{slice_index}
 use Rattle.qpu_word.specs.declared.code.TheConstants.{PROCESSORS}
-use Rattle.qpu_word.specs.declared.fault.FaultKind.{FaultKind}
-use Rattle.qpu_word.specs.declared.state.Halt.{Halt}
-use Rattle.qpu_word.specs.declared.state.Halt.TheVariants.{Going, Ended, Faulted}
 use Rattle.qpu_word.specs.Words.{fields_of, is_local}
 use Rattle.qpu_word.specs.Processor.{ProcessorState}
 use Rattle.qpu_word.specs.Instruction.{local_result, is_link_point}
-use Rattle.qpu_shared.specs.SharedState.{SharedState, Pending, nothing_pending}
-use Rattle.qpu_shared.specs.Instruction.{is_running, is_going, instruction, Outcome, NoStep, pending_of}
-use Rattle.qpu_shared.proofs.LocalLemmas.{instruction_local, local_outcome}
+use Rattle.qpu_shared.specs.Instruction.{is_running}
+use Rattle.qpu_shared.proofs.LocalLemmas.{instruction_local}
 use Rattle.qpu_machine.specs.declared.actor.Actor.{Actor}
 use Rattle.qpu_machine.specs.declared.actor.Actor.TheVariants.{Exec, Load, Store, Fetch}
-use Rattle.qpu_machine.specs.Machine.{MachineState, processor_of, words_of, with_both, after_outcome, after_exec, after_step, Step, is_enabled}
+use Rattle.qpu_machine.specs.Machine.{MachineState, processor_of, words_of, with_both, after_step, Step}
 use Rattle.qpu_machine.specs.Schedule.{After, here, next}
 use Rattle.qpu_machine.specs.Ending.{IsFinal}
-use Rattle.qpu_machine.specs.Serial.{is_at_local, has_local_step, Stretch, stops, goes, Tried, rests, moves, InTurn, none, each, tries_of, Round, over, turn, SerialSchedule, ends, goes_on}
+use Rattle.qpu_machine.specs.Serial.{has_local_step, Stretch, stops, goes, rests, InTurn, none, each, tries_of, Round, over, turn, SerialSchedule, ends, goes_on}
 
 -- a running processor at a local word that doesn't fault
 pub record IsAtLocal (m : MachineState) (q : ℕ) (p after : ProcessorState) : Type 0 where
@@ -83,7 +77,7 @@ ran_stretch {q} {i} {m} {n} ran final =
 tries_rest : (q : ℕ) (m : MachineState) → IsFinal m → InTurn (tries_of q) m [] m
 tries_rest q m final =
     each (rests (final (Exec q))) (each (rests (final (Load q))) (each (rests (final (Store q)))
-      (each (rests (final (Fetch q 0))) (each (rests (final (Fetch q 1))) none))))
+    (each (rests (final (Fetch q 0))) (each (rests (final (Fetch q 1))) none))))
 
 -- and a round does nothing
 round_rests : (d q : ℕ) (m : MachineState) → q + d ≡ PROCESSORS → IsFinal m → Round q m [] m
@@ -96,7 +90,7 @@ first_round : {i : ℕ} {m n : MachineState} → Ran 0 m i n → IsFinal n → R
 first_round {i} {m} {n} ran final =
     let P : List Actor → Type 0 = λ t. Round 0 m t n in
     subst P (append-nil (replicate i (Exec 0)))
-      (turn (omega arith) (ran_stretch ran final) (tries_rest 0 n final) (round_rests 11 1 n refl final))
+    (turn (omega arith) (ran_stretch ran final) (tries_rest 0 n final) (round_rests 11 1 n refl final))
 
 -- the serial schedule of such a machine
 pub serial_alone : {i : ℕ} {m n : MachineState} → Ran 0 m i n → IsFinal n → SerialSchedule m (replicate i (Exec 0)) n

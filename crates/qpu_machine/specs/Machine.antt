@@ -1,11 +1,11 @@
 -- The machine, and one actor's step. That DMA moves and look-up moves are steps of their own is
 -- this project's own.
-use Rattle.std.specs.Prelude.{◌≡◌, ℕ, ◌+◌, ◌*◌, ◌/◌, ◌%◌, ◌==◌, Bool, true, false, nat_lt, List, [], ◌∷◌, ◌++◌, map, replicate, fold, Option, Some, None, is_some, slice_get, slice_index, slice_index_or, slice_set, if◌then◌else◌}
+use Rattle.std.specs.Prelude.{◌≡◌, ℕ, Bool, List, [], ◌∷◌, map, replicate, fold, Option, Some, None, is_some, slice_index, slice_index_or, slice_set}
 use Rattle.qpu_word.specs.declared.code.TheConstants.{PROCESSORS}
 use Rattle.qpu_word.specs.Processor.{ProcessorState, opening_processor}
 use Rattle.qpu_vpm.specs.Cells.{cell}
 use Rattle.qpu_dma.specs.declared.Pair.{Pair}
-use Rattle.qpu_dma.specs.Transfers.{Transfer, Plan, load_plan, store_plan, transfer_pairs}
+use Rattle.qpu_dma.specs.Transfers.{Transfer, load_plan, store_plan, transfer_pairs}
 use Rattle.qpu_shared.specs.SharedState.{SharedState, Pending, LookUp, opening_shared}
 use Rattle.qpu_shared.specs.Instruction.{Outcome, NoStep, Awaits, Faults, Done, instruction, pending_of, looks_of, with_looks}
 use Rattle.qpu_word.specs.Instruction.{halted}

@@ -1,25 +1,19 @@
 -- A local word reads and changes its processor alone.
-use Rattle.std.proofs.Common.{◌≡◌, ℕ, zero, suc, ◌+◌, ◌<◌, ◌≤◌, Bool, true, false, not, List, [], ◌∷◌, length, get_or, Option, Some, None, Result, Ok, Err, refl, ap, sym, ◌∙◌, arith}
-use Rattle.std.proofs.Math.ListN.{set}
+use Rattle.std.proofs.Common.{◌≡◌, ℕ, Bool, true, false, not, List, Option, None, Result, Ok, Err, refl, ap, ◌∙◌, arith}
 use Rattle.std.proofs.lemmas.List.{set-get_or}
-use Rattle.std.specs.Prelude.{find, ◌==◌, ◌&&◌, ◌||◌, if◌then◌else◌, slice_index, slice_set}
-use Rattle.std.proofs.lemmas.Bool.Decides.{nat_tests}
+use Rattle.std.specs.Prelude.{◌==◌, ◌&&◌, ◌||◌, slice_index}
 use Rattle.qpu_word.specs.declared.word.Fields.{Fields}
-use Rattle.qpu_word.specs.declared.traffic.Ins.{Ins}
 use Rattle.qpu_word.specs.declared.traffic.Outs.{Outs}
 use Rattle.qpu_word.specs.declared.setup.Book.{Book}
 use Rattle.qpu_word.specs.declared.fault.FaultKind.{FaultKind}
-use Rattle.qpu_word.specs.declared.fault.FaultKind.TheVariants.{Branch}
 use Rattle.qpu_word.specs.declared.code.TheConstants.{NOWHERE, READ_UNIFORM, READ_VPM, READ_DMA_BUSY, READ_DMA_WAIT, READ_MUTEX, WRITE_VPM, WRITE_DMA_ADDRESS, WRITE_MUTEX, WRITE_TMU0_S, WRITE_TMU1_S}
-use Rattle.qpu_word.specs.Lanes.{lanes}
 use Rattle.qpu_word.specs.Words.{fields_of, reads, reads_a, reads_b, writes, writes_a, writes_b, is_tmu_load, is_semaphore, is_shared, is_local, add_writes, mul_writes}
 use Rattle.qpu_word.specs.Processor.{ProcessorState}
 use Rattle.qpu_word.specs.Instruction.{sent_to, sent_to_a, sent_to_b, first_lane, as_lanes, look_address, outs_from, outs_of, after_setups, after_uniform_to, then_after, branch_fails, done, no_ins, local_result, is_link_point, add_sent, mul_sent}
 use Rattle.qpu_word.proofs.StepLemmas.{or_left, or_right, no_write_a, no_write_b, nothing_sent}
-use Rattle.qpu_shared.specs.declared.cause.Cause.{Cause}
 use Rattle.qpu_shared.specs.declared.cause.Cause.TheVariants.{LoadWait, StoreWait, LoadStart, StoreStart, TmuLoad, Mutex, Up, Down}
 use Rattle.qpu_shared.specs.SharedState.{SharedState, Pending}
-use Rattle.qpu_shared.specs.Instruction.{Outcome, NoStep, Awaits, Faults, Done, awaits, first_cause, causes_of, ins_of, after_reads, after_writes, Starts, shared_after, mutex_after, semaphores_after, pending_after, pending_of, instruction_result, outcome_of, outcome_under, is_running, instruction}
+use Rattle.qpu_shared.specs.Instruction.{Outcome, Faults, Done, awaits, first_cause, ins_of, after_reads, after_writes, Starts, shared_after, mutex_after, semaphores_after, pending_after, pending_of, instruction_result, outcome_of, is_running, instruction}
 
 -- what a local word doesn't do
 pub record IsAlone (f : Fields) : Type 0 where
@@ -42,7 +36,7 @@ pub record IsAlone (f : Fields) : Type 0 where
 
 -- a list of tests none of which holds
 all_false : (a b c d e g h i j k l m n : Bool) → (a || b || c || d || e || g || h || i || j || k || l || m || n) ≡ false
-  → (a ≡ false) × (b ≡ false) × (c ≡ false) × (d ≡ false) × (e ≡ false) × (g ≡ false) × (h ≡ false) × (i ≡ false) × (j ≡ false) × (k ≡ false) × (l ≡ false) × (m ≡ false) × (n ≡ false)
+    → (a ≡ false) × (b ≡ false) × (c ≡ false) × (d ≡ false) × (e ≡ false) × (g ≡ false) × (h ≡ false) × (i ≡ false) × (j ≡ false) × (k ≡ false) × (l ≡ false) × (m ≡ false) × (n ≡ false)
 all_false a b c d e g h i j k l m n none = grind arith
 
 not_true : (b : Bool) → not b ≡ true → b ≡ false
@@ -54,8 +48,8 @@ pub alone : (f : Fields) → is_local f ≡ true → IsAlone f
 unfolding is_shared
 alone f local =
     let t = all_false (reads f READ_UNIFORM) (reads f READ_VPM) (reads f READ_DMA_BUSY) (reads f READ_DMA_WAIT) (reads f READ_MUTEX)
-      (writes f WRITE_VPM) (writes f WRITE_DMA_ADDRESS) (writes f WRITE_MUTEX) (writes f WRITE_TMU0_S) (writes f WRITE_TMU1_S)
-      (is_tmu_load f 0) (is_tmu_load f 1) (is_semaphore f) (not_true _ local) in
+    (writes f WRITE_VPM) (writes f WRITE_DMA_ADDRESS) (writes f WRITE_MUTEX) (writes f WRITE_TMU0_S) (writes f WRITE_TMU1_S)
+    (is_tmu_load f 0) (is_tmu_load f 1) (is_semaphore f) (not_true _ local) in
     record {
       uniform = t.0;
       vpm = t.1;
@@ -72,7 +66,7 @@ alone f local =
       look1 = t.9;
       take0 = t.10;
       take1 = t.11;
-      semaphore = t.12
+      semaphore = t.12;
     }
 
 and_left : (a b : Bool) → a ≡ false → (a && b) ≡ false
@@ -80,14 +74,21 @@ and_left a b none = rw none refl
 
 -- none of its causes holds
 no_await : (f : Fields) (q : ℕ) (h : SharedState) → IsAlone f → (n m : ℕ)
-  → (awaits f q h LoadWait ≡ false) × (awaits f q h StoreWait ≡ false) × (awaits f q h LoadStart ≡ false) × (awaits f q h StoreStart ≡ false)
-  × (awaits f q h (TmuLoad 0) ≡ false) × (awaits f q h (TmuLoad 1) ≡ false) × (awaits f q h Mutex ≡ false)
-  × (awaits f q h (Up n) ≡ false) × (awaits f q h (Down m) ≡ false)
+    → (awaits f q h LoadWait ≡ false) × (awaits f q h StoreWait ≡ false) × (awaits f q h LoadStart ≡ false) × (awaits f q h StoreStart ≡ false)
+    × (awaits f q h (TmuLoad 0) ≡ false) × (awaits f q h (TmuLoad 1) ≡ false) × (awaits f q h Mutex ≡ false)
+    × (awaits f q h (Up n) ≡ false) × (awaits f q h (Down m) ≡ false)
 unfolding awaits
-no_await f q h a n m =
-  ( and_left _ _ a.wait_a, and_left _ _ a.wait_b, and_left _ _ a.start_a, and_left _ _ a.start_b
-  , and_left _ _ a.take0, and_left _ _ a.take1, and_left _ _ a.mutex
-  , and_left _ _ (and_left _ _ a.semaphore), and_left _ _ (and_left _ _ a.semaphore) )
+no_await f q h a n m = (
+  and_left _ _ a.wait_a,
+  and_left _ _ a.wait_b,
+  and_left _ _ a.start_a,
+  and_left _ _ a.start_b,
+  and_left _ _ a.take0,
+  and_left _ _ a.take1,
+  and_left _ _ a.mutex,
+  and_left _ _ (and_left _ _ a.semaphore),
+  and_left _ _ (and_left _ _ a.semaphore),
+)
 
 -- it has no cause to await
 pub no_cause : (f : Fields) (q : ℕ) (h : SharedState) → IsAlone f → first_cause f q h ≡ None
@@ -124,9 +125,9 @@ no_look : (f : Fields) → IsAlone f → look_address f ≡ NOWHERE
 unfolding look_address
 no_look f a =
     let m = and_or (mul_writes f) (f.waddr_mul == WRITE_TMU0_S) (f.waddr_mul == WRITE_TMU1_S)
-      (or_right (add_writes f && (f.waddr_add == WRITE_TMU0_S)) _ a.look0) (or_right (add_writes f && (f.waddr_add == WRITE_TMU1_S)) _ a.look1) in
+    (or_right (add_writes f && (f.waddr_add == WRITE_TMU0_S)) _ a.look0) (or_right (add_writes f && (f.waddr_add == WRITE_TMU1_S)) _ a.look1) in
     let n = and_or (add_writes f) (f.waddr_add == WRITE_TMU0_S) (f.waddr_add == WRITE_TMU1_S)
-      (or_left (add_writes f && (f.waddr_add == WRITE_TMU0_S)) _ a.look0) (or_left (add_writes f && (f.waddr_add == WRITE_TMU1_S)) _ a.look1) in
+    (or_left (add_writes f && (f.waddr_add == WRITE_TMU0_S)) _ a.look0) (or_left (add_writes f && (f.waddr_add == WRITE_TMU1_S)) _ a.look1) in
     rw (m, n) refl
 
 -- nothing is written at the address that is none
@@ -153,7 +154,7 @@ plain_outs f add mul a = record {
   vpm = ap as_lanes (no_vector f add mul a);
   load_at = ap first_lane (no_start_a f add mul a);
   store_at = ap first_lane (no_start_b f add mul a);
-  look = ap as_lanes (ap (sent_to f add mul) (no_look f a) ∙ nothing_nowhere f add mul)
+  look = ap as_lanes (ap (sent_to f add mul) (no_look f a) ∙ nothing_nowhere f add mul);
 }
 
 -- what starts where nothing is sent but to the setups
@@ -161,7 +162,7 @@ abbrev pub plain_starts : Outs → Book → Starts
 plain_starts outs book = record { book = after_uniform_to outs.uniform_to book; load = None; store = None; look = None }
 
 pub plain_writes : (outs : Outs) (memory : List ℕ) (book : Book) → IsPlainOuts outs
-  → after_writes outs memory book ≡ then_after (after_setups outs book) (λ c. Ok (plain_starts outs c))
+    → after_writes outs memory book ≡ then_after (after_setups outs book) (λ c. Ok (plain_starts outs c))
 unfolding after_writes
 plain_writes outs memory book is = rw (is.vpm, is.load_at, is.store_at, is.look) refl
 
@@ -178,7 +179,7 @@ same_semaphores f counts a = rw a.semaphore refl
 
 -- it leaves the shared parts as they were
 pub same_shared : (f : Fields) (p : ProcessorState) (outs : Outs) (book : Book) (h : SharedState) → IsAlone f → IsPlainOuts outs
-  → shared_after f p outs (plain_starts outs book) h ≡ h
+    → shared_after f p outs (plain_starts outs book) h ≡ h
 unfolding shared_after
 same_shared f p outs book h a is =
     rw (is.vpm, same_mutex f p.q h.mutex a, same_semaphores f h.semaphores a, same_pending f outs book (pending_of h p.q) a, set-get_or h.pending p.q _) refl
@@ -190,28 +191,32 @@ local_outcome (Err kind) h = Faults kind
 
 -- the same result, whether the shared parts stand beside it or not
 beside : (r : Result Book FaultKind) (f : Fields) (p : ProcessorState) (outs : Outs) (h : SharedState) → IsAlone f → IsPlainOuts outs
-  → outcome_of (then_after (then_after r (λ c. Ok (plain_starts outs c))) (λ starts. Ok (done f p no_ins starts.book, shared_after f p outs starts h)))
+    → outcome_of (then_after (then_after r (λ c. Ok (plain_starts outs c))) (λ starts. Ok (done f p no_ins starts.book, shared_after f p outs starts h)))
     ≡ local_outcome (then_after r (λ book. Ok (done f p no_ins (after_uniform_to outs.uniform_to book)))) h
 beside (Ok c) f p outs h a is = ap (Done (done f p no_ins (after_uniform_to outs.uniform_to c))) (same_shared f p outs c h a is)
 beside (Err kind) f p outs h a is = refl
 
 -- a local word comes to what it makes of its processor
 local_comes : (is_link : ℕ → Bool) (word : ℕ) (p : ProcessorState) (h : SharedState) (fails : Bool) → fails ≡ branch_fails is_link (fields_of word) p
-  → IsAlone (fields_of word) → outcome_of (instruction_result is_link word p h) ≡ local_outcome (local_result is_link word p) h
+    → IsAlone (fields_of word) → outcome_of (instruction_result is_link word p h) ≡ local_outcome (local_result is_link word p) h
 unfolding instruction_result local_result
 local_comes is_link word p h true fails a = rw (← fails) refl
 local_comes is_link word p h false fails a =
-    rw (← fails, no_reads (fields_of word) p h a, no_read_book (fields_of word) h.memory p.book a,
-        plain_writes (outs_of (fields_of word) p no_ins) h.memory p.book (plain_outs (fields_of word) (add_sent (fields_of word) p no_ins) (mul_sent (fields_of word) p no_ins) a))
-      (beside (after_setups (outs_of (fields_of word) p no_ins) p.book) (fields_of word) p (outs_of (fields_of word) p no_ins) h a
-        (plain_outs (fields_of word) (add_sent (fields_of word) p no_ins) (mul_sent (fields_of word) p no_ins) a))
+    rw (
+      ← fails,
+      no_reads (fields_of word) p h a,
+      no_read_book (fields_of word) h.memory p.book a,
+      plain_writes (outs_of (fields_of word) p no_ins) h.memory p.book (plain_outs (fields_of word) (add_sent (fields_of word) p no_ins) (mul_sent (fields_of word) p no_ins) a),
+    )
+    (beside (after_setups (outs_of (fields_of word) p no_ins) p.book) (fields_of word) p (outs_of (fields_of word) p no_ins) h a
+    (plain_outs (fields_of word) (add_sent (fields_of word) p no_ins) (mul_sent (fields_of word) p no_ins) a))
 
 -- the whole instruction of a running processor at a local word
 pub instruction_local : (words : List ℕ) (limit : ℕ) (p : ProcessorState) (h : SharedState)
-  → is_running limit p ≡ true → is_local (fields_of (slice_index words p.place)) ≡ true
-  → instruction words limit p h ≡ local_outcome (local_result (is_link_point words) (slice_index words p.place) p) h
+    → is_running limit p ≡ true → is_local (fields_of (slice_index words p.place)) ≡ true
+    → instruction words limit p h ≡ local_outcome (local_result (is_link_point words) (slice_index words p.place) p) h
 unfolding instruction
 instruction_local words limit p h runs local =
     let a = alone (fields_of (slice_index words p.place)) local in
     rw (runs, no_cause (fields_of (slice_index words p.place)) p.q h a)
-      (local_comes (is_link_point words) (slice_index words p.place) p h _ refl a)
+    (local_comes (is_link_point words) (slice_index words p.place) p h _ refl a)

@@ -1,7 +1,7 @@
 -- One whole instruction with the shared parts: what it awaits, why it faults, what it does. The
 -- order of causes, faults and effects is this project's own; the accesses are those of the
 -- VideoCore IV 3D Architecture Reference Guide, "QPU Register Address Map".
-use Rattle.std.specs.Prelude.{ℕ, ◌+◌, ◌-◌, ◌/◌, ◌==◌, ◌&&◌, ◌||◌, Bool, true, false, not, nat_lt, nat_eq, List, [], ◌∷◌, ◌++◌, length, map, find, Option, Some, None, is_some, is_none, Result, Ok, Err, slice_index, slice_index_or, slice_set, drop, fold, zip, if◌then◌else◌}
+use Rattle.std.specs.Prelude.{ℕ, ◌+◌, ◌-◌, ◌/◌, ◌==◌, ◌&&◌, Bool, true, false, not, nat_lt, List, [], ◌∷◌, ◌++◌, length, map, find, Option, Some, None, is_some, is_none, Result, Ok, Err, slice_index, slice_index_or, slice_set, drop, if◌then◌else◌}
 use Rattle.std.specs.List.{list_all}
 use Rattle.qpu_word.specs.declared.word.Fields.{Fields}
 use Rattle.qpu_word.specs.declared.lanes.Lanes.{Lanes}
@@ -14,7 +14,7 @@ use Rattle.qpu_word.specs.declared.state.Halt.TheVariants.{Going, Ended, Faulted
 use Rattle.qpu_word.specs.declared.fault.FaultKind.{FaultKind}
 use Rattle.qpu_word.specs.declared.fault.FaultKind.TheVariants.{Uniform, NoSetup, Transfer as TransferFault, LookUp as LookUpFault, Branch}
 use Rattle.qpu_word.specs.declared.code.TheConstants.{SEMAPHORE_MOST, READ_UNIFORM, READ_VPM, READ_DMA_BUSY, READ_DMA_WAIT, READ_MUTEX, WRITE_DMA_ADDRESS, WRITE_MUTEX}
-use Rattle.qpu_word.specs.Lanes.{lanes, lane}
+use Rattle.qpu_word.specs.Lanes.{lanes}
 use Rattle.qpu_word.specs.Operations.{low32}
 use Rattle.qpu_word.specs.Words.{fields_of, reads, reads_a, reads_b, writes, writes_a, writes_b, is_tmu_load, is_semaphore}
 use Rattle.qpu_word.specs.Setups.{take_vector, put_vector}

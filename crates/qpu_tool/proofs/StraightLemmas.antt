@@ -8,7 +8,7 @@ use Rattle.qpu_word.specs.declared.state.Halt.{Halt}
 use Rattle.qpu_word.specs.declared.state.Halt.TheVariants.{Going, Ended}
 use Rattle.qpu_word.specs.declared.word.Fields.{Fields}
 use Rattle.qpu_word.specs.declared.code.TheConstants.{WRITE_VPM_SETUP, WRITE_UNIFORMS_ADDRESS}
-use Rattle.qpu_word.specs.Words.{fields_of, is_branch, is_program_end, is_local}
+use Rattle.qpu_word.specs.Words.{fields_of, is_branch, is_program_end, is_local, IsInProfile}
 use Rattle.qpu_word.specs.Processor.{ProcessorState, opening_processor}
 use Rattle.qpu_word.specs.Instruction.{is_link_point, local_result, done, no_ins, rest_later, place_later, halt_later, rest_after, place_after, halt_after}
 use Rattle.qpu_word.proofs.KeptLemmas.{Moves, done_moves}
@@ -16,12 +16,21 @@ use Rattle.qpu_word.proofs.StepLemmas.{local_result_plain}
 use Rattle.qpu_word.specs.declared.fault.FaultKind.{FaultKind}
 use Rattle.qpu_local.specs.Steps.{Steps}
 use Rattle.qpu_shared.specs.Instruction.{is_running}
-use Rattle.qpu_machine.specs.Machine.{MachineState}
-use Rattle.qpu_machine.proofs.RunLemmas.{Ran, begun}
-use Rattle.qpu_machine.proofs.AloneLemmas.{alone, ran_alone}
+use Rattle.qpu_machine.specs.declared.actor.Actor.TheVariants.{Exec}
+use Rattle.qpu_machine.specs.declared.conclusion.Ending.TheVariants.{Done}
+use Rattle.qpu_machine.specs.Ending.{ending_of}
+use Rattle.qpu_machine.specs.Machine.{MachineState, machine_of}
+use Rattle.qpu_machine.proofs.RunLemmas.{Ran, begun, ran_after, serial_alone}
+use Rattle.qpu_machine.proofs.AloneLemmas.{alone, ran_alone, opening_alone, final_alone, ending_alone}
 use Rattle.qpu_tool.specs.FirstForm.{is_first_word}
-use Rattle.qpu_tool.specs.Job.{Plan}
-use Rattle.qpu_tool.proofs.FirstWords.{first_word_local, first_word_not_branch, first_word_writes}
+use Rattle.qpu_tool.specs.Job.{Plan, IsFirstProgram}
+use Rattle.qpu_word.specs.declared.word.Word.{Word}
+use Rattle.qpu_tool.specs.declared.job.Job.{Job}
+use Rattle.qpu_tool.specs.Reading.{word_numbers}
+use Rattle.qpu_tool.specs.Plans.{plan_of}
+use Rattle.qpu_tool.specs.Opening.{opening_machine, machine_with}
+use Rattle.qpu_tool.specs.Run.{FaithfulRun}
+use Rattle.qpu_tool.proofs.FirstWords.{first_word_profile, first_word_local, first_word_not_branch, first_word_writes}
 
 -- what is in progress before word i of n: program end stands third from the end
 abbrev pub rest_at : ℕ → ℕ → Rest
@@ -71,14 +80,14 @@ stands_later f p after n i below plain ends moves stands = record {
   halt = moves.halt ∙ halt_moves f p n i below plain ends stands.rest
 }
 
--- the machine of a job with its processor
-abbrev pub machine_with : Plan → ProcessorState → MachineState
-machine_with plan p = alone (replicate plan.memory 0) plan.limit plan.code p
+-- the machine of a job with its processor, written out
+abbrev pub alone_with : Plan → ProcessorState → MachineState
+alone_with plan p = alone (replicate plan.memory 0) plan.limit plan.code p
 
 -- a processor after i words of a job
 pub record IsAfter (plan : Plan) (i : ℕ) (p : ProcessorState) : Type 0 where
   pub stands : StandsAt (length plan.code) i p
-  pub ran : Ran 0 (machine_with plan (opening_processor 0 0)) i (machine_with plan p)
+  pub ran : Ran 0 (alone_with plan (opening_processor 0 0)) i (alone_with plan p)
 
 -- a word of a job, and whether it is where program end stands
 pub record IsWordAt (plan : Plan) (i w : ℕ) : Type 0 where
@@ -139,3 +148,84 @@ pub steps_done : (fault : Option FaultKind) (due : Result ProcessorState FaultKi
   → Steps fault due old new → due ≡ Ok after → new ≡ after
 steps_done None due old new after steps is = same_ok new after (sym steps ∙ is)
 steps_done (Some kind) due old new after steps is = absurd (not_err kind after (sym steps.0 ∙ is))
+
+-- a word of a program of the first form
+pub word_at : (plan : Plan) (i : ℕ) → IsFirstProgram plan.code → i < length plan.code → IsWordAt plan i (slice_index plan.code i)
+word_at plan i program below = record {
+  below = below;
+  is = refl;
+  first = (program.words i 0 below).form;
+  ends = program.ends i below
+}
+
+-- what a step asks for, where a processor stands before a word
+pub record IsReady (plan : Plan) (p : ProcessorState) : Type 0 where
+  pub going : p.halt ≡ Going
+  pub executed : p.executed < 1000000
+  pub place : p.place < length plan.code
+  pub profile : IsInProfile (slice_index plan.code p.place)
+  pub local : is_local (fields_of (slice_index plan.code p.place)) ≡ true
+
+pub is_ready : (plan : Plan) (i : ℕ) (p : ProcessorState) → IsFirstProgram plan.code → i < length plan.code → IsAfter plan i p → IsReady plan p
+is_ready plan i p program below after =
+    let e : (i == length plan.code) ≡ false = grind (arith, nat_tests) in
+    let first = (program.words i 0 below).form in
+    record {
+      going = after.stands.halt ∙ rw e refl;
+      executed = omega (arith, after.stands.executed, below, program.at_most);
+      place = omega (arith, after.stands.place, below);
+      profile = rw after.stands.place (first_word_profile (slice_index plan.code i) first);
+      local = rw after.stands.place (first_word_local (slice_index plan.code i) first)
+    }
+
+-- a step takes it to the next word
+pub one_more_word : (plan : Plan) (i : ℕ) (p after : ProcessorState) (fault : Option FaultKind) → IsFirstProgram plan.code → length plan.code ≤ plan.limit
+  → i < length plan.code → Steps fault (local_result (is_link_point plan.code) (slice_index plan.code p.place) p) p after
+  → IsAfter plan i p → IsAfter plan (i + 1) after
+one_more_word plan i p after fault program enough below steps before =
+    let first = (program.words i 0 below).form in
+    let at : slice_index plan.code p.place ≡ slice_index plan.code i = ap (slice_index plan.code) before.stands.place in
+    let due : local_result (is_link_point plan.code) (slice_index plan.code p.place) p ≡ Ok (done (fields_of (slice_index plan.code i)) p no_ins p.book) =
+      rw at (first_word_done (is_link_point plan.code) (slice_index plan.code i) p first) in
+    is_after_more plan i (slice_index plan.code i) p after enough (word_at plan i program below)
+      (steps_done fault (local_result (is_link_point plan.code) (slice_index plan.code p.place) p) p after (done (fields_of (slice_index plan.code i)) p no_ins p.book) steps due)
+      before
+
+-- it is the machine of the job with this processor
+with_is_alone : (plan : Plan) (p : ProcessorState) → machine_with plan p ≡ alone_with plan p
+unfolding opening_machine machine_of
+with_is_alone plan p = refl
+
+opening_is_alone : (plan : Plan) → opening_machine plan ≡ alone_with plan (opening_processor 0 0)
+unfolding opening_machine
+opening_is_alone plan = opening_alone (replicate plan.memory 0) plan.limit plan.code 0
+
+ends_last : (n : ℕ) → halt_at n n ≡ Ended
+ends_last n = grind (arith, nat_tests)
+
+-- after its last word it has ended
+pub ended : (plan : Plan) (p : ProcessorState) → IsAfter plan (length plan.code) p → p.halt ≡ Ended
+ended plan p after = after.stands.halt ∙ ends_last (length plan.code)
+
+-- and the run is the one that was promised
+pub faithful : (plan : Plan) (p : ProcessorState) → IsAfter plan (length plan.code) p
+  → FaithfulRun plan (replicate (length plan.code) (Exec 0)) (machine_with plan p)
+faithful plan p after =
+    let final = final_alone (replicate plan.memory 0) plan.limit plan.code p (ended plan p after) in
+    rw (with_is_alone plan p) (record {
+      permitted = rw (opening_is_alone plan) (ran_after after.ran);
+      complete = final;
+      serial = rw (opening_is_alone plan) (serial_alone after.ran final)
+    })
+
+-- how it has come out
+pub comes_out_done : (plan : Plan) (p : ProcessorState) → p.halt ≡ Ended → ending_of (machine_with plan p) ≡ Done
+comes_out_done plan p halted = rw (with_is_alone plan p) (ending_alone (replicate plan.memory 0) plan.limit plan.code p halted)
+
+-- the same, for the words as they stand in a job
+pub one_more_of : (job : Job) (words : List Word) (i : ℕ) (p after : ProcessorState) (fault : Option FaultKind) → words ≡ job.words.items
+  → IsFirstProgram (plan_of job).code → length (plan_of job).code ≤ (plan_of job).limit → i < length (plan_of job).code
+  → Steps fault (local_result (is_link_point (word_numbers words)) (slice_index (word_numbers words) p.place) p) p after
+  → IsAfter (plan_of job) i p → IsAfter (plan_of job) (i + 1) after
+one_more_of job words i p after fault same program enough below steps before =
+    one_more_word (plan_of job) i p after fault program enough below (rw same at steps) before

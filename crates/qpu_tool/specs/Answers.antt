@@ -1,14 +1,15 @@
 -- What a command answers, and which answer is due. This project's own.
-use Rattle.std.specs.Prelude.{◌≡◌, ℕ, List, [], ◌∷◌, codes}
+use Rattle.std.specs.Prelude.{◌≡◌, ◌<◌, ◌≤◌, ◌⊎◌, ℕ, List, [], ◌∷◌, codes, length, IfSome}
 use Rattle.qpu_io.specs.Faults.{Rose}
 use Rattle.qpu_io.specs.Input.{Input, ReadsToEnd, ReadsPast, ReadsPart, ReadBreaks}
 use Rattle.qpu_io.specs.Output.{Output, appended, Cut}
 use Rattle.qpu_machine.specs.declared.actor.Actor.{Actor}
 use Rattle.qpu_machine.specs.Machine.{MachineState}
+use Rattle.qpu_machine.specs.declared.conclusion.Ending.TheVariants.{Done as RunDone}
 use Rattle.qpu_machine.specs.Ending.{ending_of}
 use Rattle.qpu_tool.specs.declared.status.Status.{Status}
 use Rattle.qpu_tool.specs.declared.status.Status.TheVariants.{Done, Usage, JobRefused, ReadFault, WriteFault, NoMemory, TooLong}
-use Rattle.qpu_tool.specs.declared.plain.TheConstants.{MOST_INPUT}
+use Rattle.qpu_tool.specs.declared.command.TheConstants.{MOST_INPUT}
 use Rattle.qpu_tool.specs.Statuses.{status_for}
 use Rattle.qpu_tool.specs.Job.{Plan, IsJob}
 use Rattle.qpu_tool.specs.Run.{FaithfulRun, run_text}
@@ -47,8 +48,8 @@ IsNoJob text = (plan : Plan) → IsJob text plan → ⊥
 pub data AnswerTo (text : List ℕ) : Answer → Type 0 where
   -- it is no job
   refused : IsNoJob text → AnswerTo text not_built
-  -- it is a job, and this is its run
-  ran : (plan : Plan) (s : List Actor) (m : MachineState) → IsJob text plan → FaithfulRun plan s m → AnswerTo text (run_answer text s m)
+  -- it is a job, and this is its run, which comes to its end
+  ran : (plan : Plan) (s : List Actor) (m : MachineState) → IsJob text plan → FaithfulRun plan s m → ending_of m ≡ RunDone → AnswerTo text (run_answer text s m)
 
 -- which answer is due, in the order in which refusals are tried
 pub data Due (words : List (List ℕ)) (old new : Input) : Answer → Type 0 where
@@ -78,13 +79,29 @@ pub data Outcome (words : List (List ℕ)) (old new : Input) (held held' : Outpu
   given : (answer : Answer) → Due words old new answer → Gives answer held held' status → Outcome words old new held held' status
   out_of_memory : IsRun words → ReadsPart old new MOST_INPUT → status ≡ NoMemory → held' ≡ held → Outcome words old new held held' status
 
--- clauses that follow for a caller
+-- what was printed for a job: the text of a run of it that is what was promised
+pub record PrintsRun (job : List ℕ) (old new : Output) : Type 0 where
+  pub plan : Plan
+  pub schedule : List Actor
+  pub machine : MachineState
+  pub is_job : IsJob job plan
+  pub run : FaithfulRun plan schedule machine
+  pub done : ending_of machine ≡ RunDone
+  pub printed : new ≡ appended old (run_text job schedule machine)
 
--- a count of faults rose in the call
+-- no fault was counted: neither is a count greater after the call, nor does it stand at its last value
 abbrev pub IsQuiet : ℕ → ℕ → Type 0
 IsQuiet old new = Rose old new → ⊥
 
--- the statuses of refusals and runs after which nothing of the source is left
-pub data IsWhole : Status → Type 0 where
-  job_refused : IsWhole JobRefused
-  done : IsWhole Done
+-- nothing of a source is left, as far as it tells
+abbrev pub NothingLeft : Input → Type 0
+NothingLeft input = IfSome input.left (λ rest. rest ≡ [])
+
+-- the answer to a whole input where no fault is counted: memory was wanting; it is too long; it is
+-- no job; or the whole text of its run was printed
+abbrev pub AnswersTo : List ℕ → Output → Output → Status → Type 0
+AnswersTo text old new status =
+    (status ≡ NoMemory)
+    ⊎ (((status ≡ TooLong) × (MOST_INPUT < length text))
+    ⊎ (((status ≡ JobRefused) × (length text ≤ MOST_INPUT) × IsNoJob text)
+    ⊎ ((status ≡ Done) × PrintsRun text old new)))

@@ -1,12 +1,15 @@
-//! The texts of the command: the reader of a job, and the writers of a record and of a report.
+//! The program's commands, from their words and input to a status and an output.
 //!
-//! A job is read in its first form: one program of words as numbers, which one processor runs. What
-//! the reader accepts is just what the grammar in `specs/` has.
+//! Today there is one: `run -w 0`, which runs a job of the first form: one program of words as
+//! numbers, which one processor runs. The promise of a run is the contract of `plain`.
 #![tactic(auto)]
 
+mod code;
+mod command;
 mod job;
-mod plain;
+mod run;
 mod status;
 
-pub use plain::MOST_INPUT;
+pub use command::MOST_INPUT;
+pub use command::plain;
 pub use status::Status;

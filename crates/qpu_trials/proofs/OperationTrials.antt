@@ -1,5 +1,5 @@
 -- Every operation on one row of lanes. The values come from an independent program.
-use Rattle.std.proofs.Common.{◌≡◌, ℕ, Bool, true, false, List, [], ◌∷◌, Option, Some, None, refl}
+use Rattle.std.proofs.Common.{◌≡◌, ℕ, List, [], ◌∷◌, Some, refl}
 use Rattle.qpu_word.specs.declared.operation.AddOp.TheVariants as AddUnit
 use Rattle.qpu_word.specs.declared.operation.MulOp.TheVariants as MulUnit
 use Rattle.qpu_word.specs.Lanes.{lanes, lane, mask_below}

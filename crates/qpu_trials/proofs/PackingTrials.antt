@@ -1,6 +1,6 @@
 -- Each pack mode, each unpack mode, rotations and small immediates. The values come from an
 -- independent program.
-use Rattle.std.proofs.Common.{◌≡◌, ℕ, List, [], ◌∷◌, map, refl}
+use Rattle.std.proofs.Common.{◌≡◌, [], ◌∷◌, map, refl}
 use Rattle.qpu_word.specs.Lanes.{lanes}
 use Rattle.qpu_word.specs.Operands.{unpacked, small_value}
 use Rattle.qpu_word.specs.Writing.{packed, rotated}
@@ -116,4 +116,3 @@ rotated5 = refl
 rotated15 : rotated 15 (0 ∷ 1 ∷ 2 ∷ 3 ∷ 4 ∷ 5 ∷ 6 ∷ 7 ∷ 8 ∷ 9 ∷ 10 ∷ 11 ∷ 12 ∷ 13 ∷ 14 ∷ 15 ∷ []) ≡ 1 ∷ 2 ∷ 3 ∷ 4 ∷ 5 ∷ 6 ∷ 7 ∷ 8 ∷ 9 ∷ 10 ∷ 11 ∷ 12 ∷ 13 ∷ 14 ∷ 15 ∷ 0 ∷ []
 unfolding rotated lanes
 rotated15 = refl
-

@@ -1,12 +1,12 @@
 -- Worked programs, run by the definitions of whole steps along the schedule of an independent
 -- program, with the registers, counts, halts and shared parts that this program gave.
-use Rattle.std.proofs.Common.{◌≡◌, ℕ, ◌*◌, ◌+◌, Bool, true, false, List, [], ◌∷◌, ◌++◌, map, replicate, take, drop, Option, Some, None, refl}
+use Rattle.std.proofs.Common.{◌≡◌, ℕ, List, [], ◌∷◌, map, replicate, take, Option, Some, None, refl}
 use Rattle.std.specs.Prelude.{◌==◌, if◌then◌else◌, length, option_map, slice_index, option_and_then, flat_map}
 use Rattle.std.specs.List.{range_with_len}
 use Rattle.qpu_word.specs.declared.state.Flags.{Flags}
 use Rattle.qpu_word.specs.declared.state.Halt.{Halt}
 use Rattle.qpu_word.specs.declared.state.Halt.TheVariants.{Going, Ended, Faulted}
-use Rattle.qpu_word.specs.declared.fault.FaultKind.TheVariants.{Uniform, NoSetup, SetupsFull, Setup, Transfer, LookUp, Branch}
+use Rattle.qpu_word.specs.declared.fault.FaultKind.TheVariants.{Uniform, NoSetup, Transfer}
 use Rattle.qpu_word.specs.Processor.{ProcessorState, opening_processor}
 use Rattle.qpu_word.specs.Lanes.{lanes, mask_below}
 use Rattle.qpu_word.specs.Words.{is_shared}
@@ -42,9 +42,14 @@ marked values = flat_map (λ k. if slice_index values k == 0 then [] else (k, sl
 
 -- the processors, the ending, the holder of the mutex, and what isn't 0 of semaphores, VPM and memory
 abbrev seen : MachineState → List (Option (List (List ℕ) × List (List ℕ) × Flags × Halt × ℕ)) × Ending × Option ℕ × List (ℕ × ℕ) × List (ℕ × ℕ) × List (ℕ × ℕ)
-seen m =
-    ( map (option_map shown) (take 2 m.processors), ending_of m, m.shared.mutex
-    , marked m.shared.semaphores, marked m.shared.vpm, marked m.shared.memory )
+seen m = (
+  map (option_map shown) (take 2 m.processors),
+  ending_of m,
+  m.shared.mutex,
+  marked m.shared.semaphores,
+  marked m.shared.vpm,
+  marked m.shared.memory,
+)
 
 -- a difference that wraps, a product of 24 bits, leading zeros, and flags of the add unit
 abbrev units_program : MachineState
@@ -197,4 +202,3 @@ link_program = (machine_of (replicate 16 0) 60 ((0xf0f8016700000018 ∷ 0x100009
 link : option_map seen (along (Exec 0 ∷ Exec 0 ∷ Exec 0 ∷ Exec 0 ∷ Exec 0 ∷ Exec 0 ∷ Exec 0 ∷ Exec 0 ∷ Exec 0 ∷ Exec 0 ∷ Exec 0 ∷ Exec 0 ∷ Exec 0 ∷ Exec 0 ∷ Exec 0 ∷ Exec 0 ∷ Exec 0 ∷ Exec 0 ∷ Exec 0 ∷ Exec 0 ∷ Exec 0 ∷ Exec 0 ∷ Exec 0 ∷ Exec 0 ∷ Exec 0 ∷ Exec 0 ∷ Exec 0 ∷ Exec 0 ∷ Exec 0 ∷ Exec 0 ∷ Exec 0 ∷ Exec 0 ∷ Exec 0 ∷ Exec 0 ∷ Exec 0 ∷ Exec 0 ∷ Exec 0 ∷ Exec 0 ∷ Exec 0 ∷ Exec 0 ∷ Exec 0 ∷ Exec 0 ∷ Exec 0 ∷ Exec 0 ∷ Exec 0 ∷ Exec 0 ∷ Exec 0 ∷ Exec 0 ∷ Exec 0 ∷ Exec 0 ∷ Exec 0 ∷ Exec 0 ∷ Exec 0 ∷ Exec 0 ∷ Exec 0 ∷ Exec 0 ∷ Exec 0 ∷ Exec 0 ∷ Exec 0 ∷ Exec 0 ∷ []) link_program) ≡ Some ((Some (((replicate 16 0x5) ∷ (replicate 16 0x0) ∷ (replicate 16 0x0) ∷ (replicate 16 0x0) ∷ []), ((replicate 16 0x0) ∷ (replicate 16 0x0) ∷ []), record { zn = None; c = None }, Going, 60)) ∷ (None) ∷ [], RanOut, None, [], [], [])
 unfolding lanes mask_below is_shared add_result mul_result add_op mul_op read_a read_b operand unpacked small_value lane_test branch_test rotation rotated packed left replicated written stored read_setup write_setup put_read put_write take_vector put_vector add_values mul_values loaded plain_values add_sent mul_sent add_stored mul_stored put_add put_mul put_loaded zn_of add_carries unit_flags load_flags flags_after target_of branch_fails rest_after place_after halt_after sent_to sent_to_a sent_to_b look_address outs_from after_setups registers_after moved_on done halted is_link_point vector_cells load_plan store_plan transfer_pairs fits opening_shared opening_processor awaits first_cause ins_of after_reads after_writes mutex_after semaphores_after shared_after instruction_result instruction machine_of vpm_loaded memory_stored after_step ending_of lib.Count.count_leading_zeros
 link = refl
-

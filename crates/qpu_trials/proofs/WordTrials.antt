@@ -1,10 +1,9 @@
 -- Worked words: their fields, that they are in the profile, and words with each fault. The fields
 -- were cut out of the binary digits by an independent program.
-use Rattle.std.proofs.Common.{◌≡◌, ℕ, Option, Some, None, refl}
-use Rattle.qpu_word.specs.declared.word.Fields.{Fields}
+use Rattle.std.proofs.Common.{◌≡◌, Some, None, refl}
 use Rattle.qpu_word.specs.declared.fault.WordFault.TheVariants.{Signal, FloatOp, ReservedOp, ReadAddress, WriteAddress, Packing, BranchCond, LoadKind, Rotation, SemaphoreTarget, NoSource}
 use Rattle.qpu_word.specs.Words.{fields_of, has_fault, word_fault, is_shared, is_local}
-use Rattle.std.proofs.Common.{Bool, true, false}
+use Rattle.std.proofs.Common.{true, false}
 
 -- nop
 word_100009e7009e7000 : fields_of 0x100009e7009e7000 ≡ record { sig = 1; unpack = 0; pm = 0; pack = 0; cond_add = 0; cond_mul = 0; sf = 0; ws = 0; waddr_add = 39; waddr_mul = 39; op_mul = 0; op_add = 0; raddr_a = 39; raddr_b = 39; add_a = 0; add_b = 0; mul_a = 0; mul_b = 0; kind = 0; immediate = 0x9e7000; down = 0; number = 0; cond_br = 0; rel = 0; reg = 0; raddr_br = 0 }
@@ -341,4 +340,3 @@ fits1 = refl
 fits2 : word_fault 0x10020867179e71c0 ≡ None
 unfolding word_fault has_fault
 fits2 = refl
-

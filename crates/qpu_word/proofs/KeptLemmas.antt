@@ -66,5 +66,5 @@ done_moves f p ins book = record {
   place = refl;
   rest = refl;
   executed = ap (λ n. n + 1) (executed_kept f p ins);
-  halt = refl
+  halt = refl;
 }

@@ -1,13 +1,12 @@
 -- What follows of a word's fields where the word is in the profile.
-use Rattle.std.proofs.Common.{◌≡◌, ◌≢◌, ℕ, zero, suc, ◌+◌, ◌/◌, ◌%◌, ◌^◌, ◌<◌, ◌≤◌, Bool, true, false, not, List, [], ◌∷◌, length, get_or, Option, Some, None, refl, ap, sym, subst, ◌∙◌, arith}
-use Rattle.std.specs.Prelude.{find, ◌==◌, ◌&&◌, ◌||◌, if◌then◌else◌}
+use Rattle.std.proofs.Common.{◌≡◌, ◌≢◌, ℕ, zero, suc, ◌/◌, ◌^◌, ◌<◌, Bool, false, List, [], ◌∷◌, length, get_or, None, sym, subst, arith}
+use Rattle.std.specs.Prelude.{find}
 use Rattle.std.proofs.Math.Nat.{mod-lt}
 use Rattle.std.proofs.Math.Pow.{pow_pos}
 use Rattle.std.proofs.lemmas.Bool.Decides.{nat_tests}
 use Rattle.qpu_word.specs.declared.word.Fields.{Fields}
-use Rattle.qpu_word.specs.declared.fault.WordFault.{WordFault}
 use Rattle.qpu_word.specs.declared.fault.WordFault.TheVariants.{Signal, Packing}
-use Rattle.qpu_word.specs.Words.{field, fields_of, has_fault, all_faults, word_fault, IsInProfile, is_branch, is_unit_word, is_alu, is_small, bad_packing}
+use Rattle.qpu_word.specs.Words.{field, fields_of, has_fault, all_faults, word_fault, IsInProfile}
 use Rattle.qpu_word.specs.Writing.{pack_mode}
 use Rattle.qpu_word.specs.Fit.{IsFit}
 

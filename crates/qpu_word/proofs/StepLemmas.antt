@@ -1,5 +1,5 @@
 -- What a local word does that is no branch and writes neither a setup nor the uniforms address.
-use Rattle.std.proofs.Common.{◌≡◌, ℕ, Bool, true, false, List, [], ◌∷◌, Option, Some, None, Result, Ok, Err, refl, ap, sym, ◌∙◌, arith}
+use Rattle.std.proofs.Common.{◌≡◌, ℕ, Bool, true, false, List, Option, None, Ok, refl, ap}
 use Rattle.std.specs.Prelude.{◌==◌, ◌&&◌, ◌||◌, if◌then◌else◌}
 use Rattle.qpu_word.specs.declared.word.Fields.{Fields}
 use Rattle.qpu_word.specs.declared.traffic.Outs.{Outs}
@@ -37,8 +37,10 @@ no_write_b f address none = neither' (f.ws == 1) _ _ none
 pub nothing_sent : (f : Fields) (add mul : List ℕ) (address : ℕ) → writes f address ≡ false → ◌≡◌ {A = Option (List ℕ)} (sent_to f add mul address) None
 unfolding sent_to
 nothing_sent f add mul address none =
-    rw (or_right (add_writes f && (f.waddr_add == address)) (mul_writes f && (f.waddr_mul == address)) none,
-        or_left (add_writes f && (f.waddr_add == address)) (mul_writes f && (f.waddr_mul == address)) none) refl
+    rw (
+      or_right (add_writes f && (f.waddr_add == address)) (mul_writes f && (f.waddr_mul == address)) none,
+      or_left (add_writes f && (f.waddr_add == address)) (mul_writes f && (f.waddr_mul == address)) none,
+    ) refl
 
 pub nothing_sent_a : (f : Fields) (add mul : List ℕ) (address : ℕ) → writes f address ≡ false → ◌≡◌ {A = Option (List ℕ)} (sent_to_a f add mul address) None
 unfolding sent_to_a
@@ -59,7 +61,7 @@ unfolding outs_from
 leaves_book f add mul setup uniform = record {
   to_read = ap first_lane (nothing_sent_a f add mul WRITE_VPM_SETUP setup);
   to_write = ap first_lane (nothing_sent_b f add mul WRITE_VPM_SETUP setup);
-  uniform = ap first_lane (nothing_sent f add mul WRITE_UNIFORMS_ADDRESS uniform)
+  uniform = ap first_lane (nothing_sent f add mul WRITE_UNIFORMS_ADDRESS uniform);
 }
 
 same_book : (outs : Outs) (book : Book) → LeavesBook outs → after_setups outs book ≡ Ok book
@@ -72,8 +74,8 @@ no_failing is_link f p plain = rw plain refl
 
 -- such a word is done, with the book as it was
 pub local_result_plain : (is_link : ℕ → Bool) (word : ℕ) (p : ProcessorState) → is_branch (fields_of word) ≡ false
-  → writes (fields_of word) WRITE_VPM_SETUP ≡ false → writes (fields_of word) WRITE_UNIFORMS_ADDRESS ≡ false
-  → local_result is_link word p ≡ Ok (done (fields_of word) p no_ins p.book)
+    → writes (fields_of word) WRITE_VPM_SETUP ≡ false → writes (fields_of word) WRITE_UNIFORMS_ADDRESS ≡ false
+    → local_result is_link word p ≡ Ok (done (fields_of word) p no_ins p.book)
 unfolding local_result
 local_result_plain is_link word p plain setup uniform =
     let leaves = leaves_book (fields_of word) (add_sent (fields_of word) p no_ins) (mul_sent (fields_of word) p no_ins) setup uniform in

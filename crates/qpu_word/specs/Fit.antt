@@ -1,5 +1,5 @@
 -- What a word of the profile tells of its fields, as far as code needs it.
-use Rattle.std.specs.Prelude.{◌≡◌, ◌≢◌, ℕ, ◌<◌, false}
+use Rattle.std.specs.Prelude.{◌≢◌, ◌<◌, false}
 use Rattle.qpu_word.specs.declared.word.Fields.{Fields}
 use Rattle.qpu_word.specs.Writing.{pack_mode}
 

@@ -1,6 +1,6 @@
 -- VideoCore IV 3D Architecture Reference Guide, "QPU Instruction Encoding" (conditions, set
 -- flags): tests of flags. That an undefined mask tests as 0 is this project's own.
-use Rattle.std.specs.Prelude.{ℕ, ◌-◌, ◌/◌, ◌%◌, ◌^◌, ◌==◌, Bool, true, false, not, Option, Some, None, nat_lt, if◌then◌else◌}
+use Rattle.std.specs.Prelude.{ℕ, ◌-◌, ◌^◌, ◌==◌, Bool, true, false, not, Option, Some, None, nat_lt, if◌then◌else◌}
 use Rattle.qpu_word.specs.declared.state.Flags.{Flags}
 use Rattle.qpu_word.specs.Lanes.{in_mask}
 

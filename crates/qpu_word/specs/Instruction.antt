@@ -2,7 +2,7 @@
 -- Architecture": what one whole instruction makes of its processor, for given reads of the shared
 -- parts, and what it sends out. All reads, then both units, then all writes, as one step; the
 -- places, the slots' count, and the fault of a register branch are this project's own.
-use Rattle.std.specs.Prelude.{ℕ, ◌+◌, ◌-◌, ◌*◌, ◌/◌, ◌%◌, ◌^◌, ◌==◌, ◌&&◌, ◌||◌, Bool, true, false, not, nat_lt, nat_le, List, length, Option, Some, None, option_map, Result, Ok, Err, slice_index, slice_set, if◌then◌else◌}
+use Rattle.std.specs.Prelude.{ℕ, ◌+◌, ◌-◌, ◌*◌, ◌/◌, ◌%◌, ◌^◌, ◌==◌, ◌&&◌, ◌||◌, Bool, false, not, nat_lt, nat_le, List, length, Option, Some, None, option_map, Result, Ok, Err, slice_index, slice_set, if◌then◌else◌}
 use Rattle.qpu_word.specs.declared.word.Fields.{Fields}
 use Rattle.qpu_word.specs.declared.lanes.Lanes.{Lanes}
 use Rattle.qpu_word.specs.declared.traffic.Ins.{Ins}

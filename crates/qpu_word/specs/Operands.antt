@@ -2,7 +2,7 @@
 -- immediates, packing of file A reads) and "QPU Register Address Map": what a unit's operand is
 -- in one lane. What is read from shared parts is handed in. Busy reads of 1 in all lanes, and the
 -- value 0 of the wait and mutex reads, are this project's own.
-use Rattle.std.specs.Prelude.{ℕ, ◌+◌, ◌-◌, ◌*◌, ◌/◌, ◌%◌, ◌^◌, ◌==◌, Bool, nat_lt, List, [], slice_index, slice_index_or, if◌then◌else◌}
+use Rattle.std.specs.Prelude.{ℕ, ◌+◌, ◌-◌, ◌*◌, ◌/◌, ◌%◌, ◌^◌, ◌==◌, Bool, nat_lt, List, [], slice_index_or, if◌then◌else◌}
 use Rattle.qpu_word.specs.declared.word.Fields.{Fields}
 use Rattle.qpu_word.specs.declared.traffic.Ins.{Ins}
 use Rattle.qpu_word.specs.declared.code.TheConstants.{ROWS, READ_UNIFORM, READ_NUMBER, READ_VPM, READ_DMA_BUSY, ROTATE_BY_R5, MUX_FILE_A, MUX_FILE_B}

@@ -1,6 +1,6 @@
 -- VideoCore IV 3D Architecture Reference Guide, "VPM and VCD Register Summary": the values of the
 -- setup registers. Their faults, and the queue of two read setups, are this project's own.
-use Rattle.std.specs.Prelude.{◌≡◌, ℕ, ◌+◌, ◌%◌, ◌^◌, ◌==◌, not, Option, Some, None, Result, Ok, Err, if◌then◌else◌}
+use Rattle.std.specs.Prelude.{◌≡◌, ℕ, ◌+◌, ◌%◌, ◌==◌, Option, Some, None, Result, Ok, Err, if◌then◌else◌}
 use Rattle.qpu_word.specs.declared.setup.Book.{Book}
 use Rattle.qpu_word.specs.declared.setup.Vectors.{Vectors}
 use Rattle.qpu_word.specs.declared.setup.ReadSetup.{ReadSetup}

@@ -1,4 +1,4 @@
-use Rattle.std.proofs.Common.{◌≡◌, ◌≢◌, ℕ, ◌<◌}
+use Rattle.std.proofs.Common.{◌≢◌, ℕ, ◌<◌}
 use Rattle.qpu_word.specs.Operands.{small_value}
 use Rattle.qpu_pack.proofs.small.small_code.Given as goal
 

@@ -1,8 +1,7 @@
 //! The command of a run without workers, from the words and the bytes of a job to the answer.
-ghost use Rattle.std.specs.Prelude.{◌≡◌, ◌<◌, ◌≤◌, ◌↔◌, ◌⊎◌, ℕ, List, [], Some, map, length, IsTrue, IfSome, string_bytes};
-ghost use Rattle.qpu_io.specs.Output.{appended, Cut, IsFront};
-ghost use Rattle.qpu_tool.specs.Job.{Plan, IsJob};
-ghost use Rattle.qpu_tool.specs.Answers.{IsRun, Gives, Judged, Outcome, usage, read_fault, too_long, not_built};
+ghost use Rattle.std.specs.Prelude.{◌≡◌, ◌<◌, ◌↔◌, ◌⊎◌, ℕ, List, map, length, IsTrue, string_bytes};
+ghost use Rattle.qpu_io.specs.Faults.{Rose};
+ghost use Rattle.qpu_tool.specs.Answers.{IsRun, IsNoJob, IsQuiet, NothingLeft, PrintsRun, AnswersTo, Gives, Judged, Outcome, usage, read_fault, too_long, not_built};
 
 use qpu_io::{ReadAllError, Sink, Source, read_all, write_all_of};
 use std::alloc::Global;
@@ -106,4 +105,40 @@ fn carried_out<S: Source, K: Sink>(
         Err(ReadAllError::TooLong) => say_too_long(sink),
         Err(ReadAllError::Memory) => Status::NoMemory,
     }
+}
+
+/// Carries out a command that waits for nobody: today `run -w 0`, on a job of at most 8,388,608
+/// bytes. The answer is one of Done, Usage, JobRefused, ReadFault, WriteFault, NoMemory, TooLong;
+/// after the first write no memory is taken.
+pub fn plain<S: Source, K: Sink>(
+    alloc: Global,
+    words: &[String],
+    source: &mut S,
+    sink: &mut K,
+) -> Status
+    ensures outcome { Outcome (map string_bytes words.now) (S.shown source.old) (S.shown source.new) (K.shown sink.old) (K.shown sink.new) result }
+
+    // The words: usage exactly where they are no command, and then nothing is read.
+    ensures usage { result ≡ Status.Usage → (IsRun (map string_bytes words.now) → ⊥) × (S.shown source.new ≡ S.shown source.old) }
+    ensures no_command { (IsRun (map string_bytes words.now) → ⊥) → (result ≡ Status.Usage) ⊎ (result ≡ Status.WriteFault) }
+
+    // No fault is passed over, and none is made up.
+    ensures sink_fault { (K.shown sink.old).faults < (K.shown sink.new).faults → result ≡ Status.WriteFault }
+    ensures source_fault { (S.shown source.old).faults < (S.shown source.new).faults → (result ≡ Status.ReadFault) ⊎ (result ≡ Status.WriteFault) }
+    ensures write_fault { result ≡ Status.WriteFault → Rose (K.shown sink.old).faults (K.shown sink.new).faults }
+    ensures read_fault { result ≡ Status.ReadFault → Rose (S.shown source.old).faults (S.shown source.new).faults }
+
+    // What is read and written.
+    ensures nothing_left { (result ≡ Status.Done) ⊎ (result ≡ Status.JobRefused) → NothingLeft (S.shown source.new) }
+    ensures no_memory { result ≡ Status.NoMemory → K.shown sink.new ≡ K.shown sink.old }
+
+    // Each answer to the bytes has its cause, and where no fault is counted one of them comes.
+    ensures too_long { (bytes : List ℕ) → (S.shown source.old).left ≡ Some bytes → result ≡ Status.TooLong → MOST_INPUT < length bytes }
+    ensures job_refused { (bytes : List ℕ) → (S.shown source.old).left ≡ Some bytes → result ≡ Status.JobRefused → IsNoJob bytes }
+    ensures done { (bytes : List ℕ) → (S.shown source.old).left ≡ Some bytes → result ≡ Status.Done → PrintsRun bytes (K.shown sink.old) (K.shown sink.new) }
+    ensures complete { (bytes : List ℕ) → IsRun (map string_bytes words.now) → (S.shown source.old).left ≡ Some bytes
+        → IsQuiet (S.shown source.old).faults (S.shown source.new).faults → IsQuiet (K.shown sink.old).faults (K.shown sink.new).faults
+        → AnswersTo bytes (K.shown sink.old) (K.shown sink.new) result }
+{
+    carried_out(alloc, words, source, sink)
 }
