@@ -6,6 +6,8 @@
 
 mod job;
 mod plain;
+mod record;
+mod report;
 mod status;
 
 pub use plain::MOST_INPUT;
