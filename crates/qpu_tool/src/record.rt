@@ -13,21 +13,16 @@ use qpu_machine::{Actor, Run};
 pub fn write_record<K: Sink>(job: &[u8], runs: &[Run], sink: &mut K) -> Result<(), SinkFailed>
     ensures { Prints (K.shown sink.old) (K.shown sink.new) (runs_text job.now runs.now) result }
 {
-    put_head(sink)?;
+    write_all_of(sink, b"qpurecord 1\n")?;
     put_size(job.len(), sink)?;
-    put_job(job, sink)?;
+    write_all_of(sink, job)?;
     put_missing_line_end(job, sink)?;
-    put_schedule(sink)?;
+    write_all_of(sink, b"schedule\n")?;
     put_runs(runs, sink)?;
-    put_end(sink)
+    write_all_of(sink, b"endrecord\n")
 }
 
-fn put_head<K: Sink>(sink: &mut K) -> Result<(), SinkFailed>
-    ensures { Prints (K.shown sink.old) (K.shown sink.new) (codes "qpurecord 1\n") result }
-{
-    write_all_of(sink, b"qpurecord 1\n")
-}
-
+// The line with the job's size in bytes.
 fn put_size<K: Sink>(size: usize, sink: &mut K) -> Result<(), SinkFailed>
     ensures { Prints (K.shown sink.old) (K.shown sink.new)
         (joined (codes "job " ∷ decimal size ∷ codes "\n" ∷ [])) result }
@@ -40,18 +35,13 @@ fn put_size<K: Sink>(size: usize, sink: &mut K) -> Result<(), SinkFailed>
     put_all(&pieces, sink)
 }
 
-fn put_job<K: Sink>(job: &[u8], sink: &mut K) -> Result<(), SinkFailed>
-    ensures { Prints (K.shown sink.old) (K.shown sink.new) job.now result }
-{
-    write_all_of(sink, job)
-}
-
 // The line feed that the job lacks at its end.
+#[tactic(auto, using(qpu_io::proofs::Outputs::appended_none))]
 fn put_missing_line_end<K: Sink>(job: &[u8], sink: &mut K) -> Result<(), SinkFailed>
     ensures { Prints (K.shown sink.old) (K.shown sink.new) (missing_line_end job.now) result }
 {
     if ends_line(job) {
-        return write_all_of(sink, b"");
+        return Ok(());
     }
     write_all_of(sink, b"\n")
 }
@@ -64,12 +54,6 @@ fn ends_line(job: &[u8]) -> bool
         [] => false,
         [.., last] => *last == b'\n',
     }
-}
-
-fn put_schedule<K: Sink>(sink: &mut K) -> Result<(), SinkFailed>
-    ensures { Prints (K.shown sink.old) (K.shown sink.new) (codes "schedule\n") result }
-{
-    write_all_of(sink, b"schedule\n")
 }
 
 fn put_runs<K: Sink>(runs: &[Run], sink: &mut K) -> Result<(), SinkFailed>
@@ -92,6 +76,7 @@ fn put_run<K: Sink>(run: &Run, sink: &mut K) -> Result<(), SinkFailed>
     }
 }
 
+// An item of steps under a name.
 fn put_item<K: Sink>(name: &[u8], q: u32, count: u64, sink: &mut K) -> Result<(), SinkFailed>
     ensures { Prints (K.shown sink.old) (K.shown sink.new)
         (joined (name.now ∷ decimal q ∷ codes " " ∷ decimal count ∷ codes "\n" ∷ [])) result }
@@ -106,6 +91,7 @@ fn put_item<K: Sink>(name: &[u8], q: u32, count: u64, sink: &mut K) -> Result<()
     put_all(&pieces, sink)
 }
 
+// The item of look-up moves.
 fn put_fetch<K: Sink>(q: u32, unit: u32, count: u64, sink: &mut K) -> Result<(), SinkFailed>
     ensures { Prints (K.shown sink.old) (K.shown sink.new)
         (joined (codes "t " ∷ decimal q ∷ codes " " ∷ decimal unit ∷ codes " " ∷ decimal count ∷ codes "\n" ∷ []))
@@ -121,10 +107,4 @@ fn put_fetch<K: Sink>(q: u32, unit: u32, count: u64, sink: &mut K) -> Result<(),
         Piece::Text(b"\n"),
     ];
     put_all(&pieces, sink)
-}
-
-fn put_end<K: Sink>(sink: &mut K) -> Result<(), SinkFailed>
-    ensures { Prints (K.shown sink.old) (K.shown sink.new) (codes "endrecord\n") result }
-{
-    write_all_of(sink, b"endrecord\n")
 }
