@@ -1,4 +1,4 @@
-ghost use Rattle.std.specs.Prelude.{◌≡◌, ◌<◌, if◌then◌else◌};
+ghost use Rattle.std.specs.Prelude.{◌≡◌, ◌<◌, if◌then◌else◌, length};
 ghost use Rattle.qpu_word.specs.Operands.{row_of};
 ghost use Rattle.qpu_word.specs.Processor.{opening_book, opening_processor};
 
@@ -111,7 +111,8 @@ impl Processor {
     /// A row of file A or B, with `at` below 32.
     pub fn row(&self, file_b: bool, at: u32) -> Lanes
         requires { at < 32 }
-        ensures { result.v ≡ row_of (if file_b then self.now.file_b else self.now.file_a) at }
+        ensures value { result.v ≡ row_of (if file_b then self.now.file_b else self.now.file_a) at }
+        ensures rows { length (if file_b then self.now.file_b else self.now.file_a) ≡ 32 }
     {
         if file_b {
             Lanes {
@@ -127,7 +128,8 @@ impl Processor {
     /// An accumulator, with n below 6: r0 to r5.
     pub fn accumulator(&self, n: u32) -> Lanes
         requires { n < 6 }
-        ensures { result.v ≡ row_of self.now.accumulators n }
+        ensures value { result.v ≡ row_of self.now.accumulators n }
+        ensures accumulators { length self.now.accumulators ≡ 6 }
     {
         Lanes {
             v: self.accumulators[n as usize],

@@ -27,11 +27,12 @@ merged (actor ∷ s) = with_step actor (merged s)
 
 -- an item of a schedule: the actor, and how many steps it takes
 abbrev pub item_text : Run → List ℕ
-item_text run = elim run.actor
-  [ Exec q ↦ joined (codes "q " ∷ decimal q ∷ codes " " ∷ decimal run.count ∷ codes "\n" ∷ [])
+item_text run = elim run.actor [
+  | Exec q ↦ joined (codes "q " ∷ decimal q ∷ codes " " ∷ decimal run.count ∷ codes "\n" ∷ [])
   | Load q ↦ joined (codes "l " ∷ decimal q ∷ codes " " ∷ decimal run.count ∷ codes "\n" ∷ [])
   | Store q ↦ joined (codes "s " ∷ decimal q ∷ codes " " ∷ decimal run.count ∷ codes "\n" ∷ [])
-  | Fetch q unit ↦ joined (codes "t " ∷ decimal q ∷ codes " " ∷ decimal unit ∷ codes " " ∷ decimal run.count ∷ codes "\n" ∷ []) ]
+  | Fetch q unit ↦ joined (codes "t " ∷ decimal q ∷ codes " " ∷ decimal unit ∷ codes " " ∷ decimal run.count ∷ codes "\n" ∷ [])
+]
 
 -- whether a text ends with a line feed
 abbrev pub ends_line : List ℕ → Bool
@@ -43,15 +44,19 @@ ends_line (b ∷ c ∷ more) = ends_line (c ∷ more)
 abbrev pub missing_line_end : List ℕ → List ℕ
 missing_line_end job = if ends_line job then [] else codes "\n"
 
+-- the record of a job and the runs of a schedule
+unfoldable pub runs_text : List ℕ → List Run → List ℕ
+runs_text job runs =
+    in_turn
+    (codes "qpurecord 1\n"
+    ∷ joined (codes "job " ∷ decimal (length job) ∷ codes "\n" ∷ [])
+    ∷ job
+    ∷ missing_line_end job
+    ∷ codes "schedule\n"
+    ∷ flat_map item_text runs
+    ∷ codes "endrecord\n"
+    ∷ [])
+
 -- the record of a job and a schedule
 unfoldable pub record_text : List ℕ → List Actor → List ℕ
-record_text job s =
-    in_turn
-      ( codes "qpurecord 1\n"
-      ∷ joined (codes "job " ∷ decimal (length job) ∷ codes "\n" ∷ [])
-      ∷ job
-      ∷ missing_line_end job
-      ∷ codes "schedule\n"
-      ∷ flat_map item_text (merged s)
-      ∷ codes "endrecord\n"
-      ∷ [] )
+record_text job s = runs_text job (merged s)

@@ -23,14 +23,14 @@ not_both false e t = absurd (cc)
 
 -- the answer to a whole input is the call's
 pub judged : (words : List (List ℕ)) (old new : Input) (held held' : Output) (text : List ℕ) (status : Status)
-  → IsRun words → ReadsToEnd old new MOST_INPUT text → Judged text held held' status → Outcome words old new held held' status
+    → IsRun words → ReadsToEnd old new MOST_INPUT text → Judged text held held' status → Outcome words old new held held' status
 judged words old new held held' text status run read (answered answer due gives) = given answer (whole text answer run read due) gives
 judged words old new held held' text status run read (no_memory is same) =
     out_of_memory run (record { bytes = text; at_most = read.at_most; taken = read.taken }) is same
 
 -- the two ways of an answer: its whole text, or a cut
 pub gave : (answer : Answer) (old new : Output) (status : Status) → Gives answer old new status
-  → ((status ≡ WriteFault) × Cut old new answer.text) ⊎ ((status ≡ answer.status) × (new ≡ appended old answer.text))
+    → ((status ≡ WriteFault) × Cut old new answer.text) ⊎ ((status ≡ answer.status) × (new ≡ appended old answer.text))
 gave answer old new Done g = inr g
 gave answer old new Usage g = inr g
 gave answer old new AsmRefused g = inr g
@@ -55,7 +55,7 @@ same_output old new is more = let e : new.faults ≡ old.faults = ap (λ (o : Ou
 
 -- no fault of the sink is passed over
 pub sink_told : (words : List (List ℕ)) (old new : Input) (held held' : Output) (status : Status)
-  → Outcome words old new held held' status → held.faults < held'.faults → status ≡ WriteFault
+    → Outcome words old new held held' status → held.faults < held'.faults → status ≡ WriteFault
 sink_told words old new held held' status (given answer due gives) more =
     elim (gave answer held held' status gives) [ inl cut ↦ cut.0 | inr all ↦ absurd (no_more held held' answer.text all.1 more) ]
 sink_told words old new held held' status (out_of_memory run read is same) more = absurd (same_output held held' same more)
@@ -67,10 +67,10 @@ pub data Cause (words : List (List ℕ)) (old new : Input) (answer : Answer) : T
   by_length : answer.status ≡ TooLong → IsRun words → ReadsPast old new MOST_INPUT → Cause words old new answer
   by_form : answer.status ≡ JobRefused → (text : List ℕ) → IsRun words → ReadsToEnd old new MOST_INPUT text → IsNoJob text → Cause words old new answer
   by_run : answer.status ≡ Done → (text : List ℕ) (plan : Plan) (s : List Actor) (m : MachineState) → IsRun words → ReadsToEnd old new MOST_INPUT text
-    → IsJob text plan → FaithfulRun plan s m → ending_of m ≡ RunDone → answer.text ≡ run_text text s m → Cause words old new answer
+      → IsJob text plan → FaithfulRun plan s m → ending_of m ≡ RunDone → answer.text ≡ run_text text s m → Cause words old new answer
 
 cause_of_whole : (words : List (List ℕ)) (old new : Input) (text : List ℕ) (answer : Answer) → IsRun words → ReadsToEnd old new MOST_INPUT text
-  → AnswerTo text answer → Cause words old new answer
+    → AnswerTo text answer → Cause words old new answer
 cause_of_whole words old new text answer run read (refused no_job) = by_form refl text run read no_job
 cause_of_whole words old new text answer run read (ran plan s m job faithful done) =
     by_run (ap status_for done) text plan s m run read job faithful done refl
@@ -96,16 +96,17 @@ pub data Came (words : List (List ℕ)) (old new : Input) (held held' : Output) 
   gave_all : (answer : Answer) → status ≡ answer.status → Cause words old new answer → held' ≡ appended held answer.text → Came words old new held held' status
 
 pub came : (words : List (List ℕ)) (old new : Input) (held held' : Output) (status : Status)
-  → Outcome words old new held held' status → Came words old new held held' status
+    → Outcome words old new held held' status → Came words old new held held' status
 came words old new held held' status (given answer due gives) =
-    elim (gave answer held held' status gives)
-    [ inl part ↦ cut answer part.0 (cause_of words old new answer due) part.1
-    | inr all ↦ gave_all answer all.0 (cause_of words old new answer due) all.1 ]
+    elim (gave answer held held' status gives) [
+      | inl part ↦ cut answer part.0 (cause_of words old new answer due) part.1
+      | inr all ↦ gave_all answer all.0 (cause_of words old new answer due) all.1
+    ]
 came words old new held held' status (out_of_memory run read is same) = wanting is run read same
 
 -- a write fault comes only where the sink counted one
 pub write_fault_told : (words : List (List ℕ)) (old new : Input) (held held' : Output) (status : Status)
-  → Came words old new held held' status → status ≡ WriteFault → Rose held.faults held'.faults
+    → Came words old new held held' status → status ≡ WriteFault → Rose held.faults held'.faults
 write_fault_told words old new held held' status (cut answer is cause part) e = part.faults
 write_fault_told words old new held held' status (wanting is run read same) e = absurd (let f : NoMemory ≡ WriteFault = sym is ∙ e in cc)
 write_fault_told words old new held held' status (gave_all answer is cause all) e = absurd (never_due words old new answer cause (sym is ∙ e))
@@ -124,7 +125,7 @@ fault_by_cause words old new answer (by_run is text plan s m run read job faithf
 
 -- no fault of the source is passed over
 pub source_told : (words : List (List ℕ)) (old new : Input) (held held' : Output) (status : Status)
-  → Came words old new held held' status → old.faults < new.faults → (status ≡ ReadFault) ⊎ (status ≡ WriteFault)
+    → Came words old new held held' status → old.faults < new.faults → (status ≡ ReadFault) ⊎ (status ≡ WriteFault)
 source_told words old new held held' status (cut answer is cause part) more = inr is
 source_told words old new held held' status (wanting is run read same) more = absurd (kept old new 0 read.taken.faults more)
 source_told words old new held held' status (gave_all answer is cause all) more = inl (is ∙ fault_by_cause words old new answer cause more)
@@ -138,14 +139,14 @@ rose_by_cause words old new answer (by_run is text plan s m run read job faithfu
 
 -- a read fault comes only where the source counted one
 pub read_fault_told : (words : List (List ℕ)) (old new : Input) (held held' : Output) (status : Status)
-  → Came words old new held held' status → status ≡ ReadFault → Rose old.faults new.faults
+    → Came words old new held held' status → status ≡ ReadFault → Rose old.faults new.faults
 read_fault_told words old new held held' status (cut answer is cause part) e = absurd (let f : WriteFault ≡ ReadFault = sym is ∙ e in cc)
 read_fault_told words old new held held' status (wanting is run read same) e = absurd (let f : NoMemory ≡ ReadFault = sym is ∙ e in cc)
 read_fault_told words old new held held' status (gave_all answer is cause all) e = rose_by_cause words old new answer cause (sym is ∙ e)
 
 -- usage comes exactly where the words are no command, and takes nothing
 pub usage_told : (words : List (List ℕ)) (old new : Input) (held held' : Output) (status : Status)
-  → Came words old new held held' status → status ≡ Usage → (IsRun words → ⊥) × (new ≡ old)
+    → Came words old new held held' status → status ≡ Usage → (IsRun words → ⊥) × (new ≡ old)
 usage_told words old new held held' status (cut answer is cause part) e = absurd (let f : WriteFault ≡ Usage = sym is ∙ e in cc)
 usage_told words old new held held' status (wanting is run read same) e = absurd (let f : NoMemory ≡ Usage = sym is ∙ e in cc)
 usage_told words old new held held' status (gave_all answer is (by_words due none taken) all) e = (none, taken)
@@ -156,7 +157,7 @@ usage_told words old new held held' status (gave_all answer is (by_run due text 
 
 -- where the words are no command, usage is told, or a write fails
 pub no_command : (words : List (List ℕ)) (old new : Input) (held held' : Output) (status : Status)
-  → Came words old new held held' status → (IsRun words → ⊥) → (status ≡ Usage) ⊎ (status ≡ WriteFault)
+    → Came words old new held held' status → (IsRun words → ⊥) → (status ≡ Usage) ⊎ (status ≡ WriteFault)
 no_command words old new held held' status (cut answer is cause part) none = inr is
 no_command words old new held held' status (wanting is run read same) none = absurd (none run)
 no_command words old new held held' status (gave_all answer is (by_words due n taken) all) none = inl (is ∙ due)
@@ -167,7 +168,7 @@ no_command words old new held held' status (gave_all answer is (by_run due text 
 
 -- want of memory leaves the sink as it was
 pub memory_told : (words : List (List ℕ)) (old new : Input) (held held' : Output) (status : Status)
-  → Came words old new held held' status → status ≡ NoMemory → held' ≡ held
+    → Came words old new held held' status → status ≡ NoMemory → held' ≡ held
 memory_told words old new held held' status (cut answer is cause part) e = absurd (let f : WriteFault ≡ NoMemory = sym is ∙ e in cc)
 memory_told words old new held held' status (wanting is run read same) e = same
 memory_told words old new held held' status (gave_all answer is (by_words due none taken) all) e = absurd (let f : Usage ≡ NoMemory = sym due ∙ (sym is ∙ e) in cc)
@@ -178,7 +179,7 @@ memory_told words old new held held' status (gave_all answer is (by_run due text
 
 -- after a run and after the refusal of a job nothing of the source is left
 pub nothing_left : (words : List (List ℕ)) (old new : Input) (held held' : Output) (status : Status)
-  → Came words old new held held' status → (status ≡ Done) ⊎ (status ≡ JobRefused) → NothingLeft new
+    → Came words old new held held' status → (status ≡ Done) ⊎ (status ≡ JobRefused) → NothingLeft new
 nothing_left words old new held held' status (cut answer is cause part) e =
     absurd (elim e [ inl d ↦ let f : WriteFault ≡ Done = sym is ∙ d in cc | inr d ↦ let f : WriteFault ≡ JobRefused = sym is ∙ d in cc ])
 nothing_left words old new held held' status (wanting is run read same) e =
@@ -194,7 +195,7 @@ nothing_left words old new held held' status (gave_all answer is (by_run due tex
 
 -- a job is refused only where what was left is no job
 pub job_refused_told : (words : List (List ℕ)) (old new : Input) (held held' : Output) (status : Status) (bytes : List ℕ)
-  → Came words old new held held' status → status ≡ JobRefused → old.left ≡ Some bytes → IsNoJob bytes
+    → Came words old new held held' status → status ≡ JobRefused → old.left ≡ Some bytes → IsNoJob bytes
 job_refused_told words old new held held' status bytes (cut answer is cause part) e left = absurd (let f : WriteFault ≡ JobRefused = sym is ∙ e in cc)
 job_refused_told words old new held held' status bytes (wanting is run read same) e left = absurd (let f : NoMemory ≡ JobRefused = sym is ∙ e in cc)
 job_refused_told words old new held held' status bytes (gave_all answer is (by_words due none taken) all) e left = absurd (let f : Usage ≡ JobRefused = sym due ∙ (sym is ∙ e) in cc)
@@ -206,7 +207,7 @@ job_refused_told words old new held held' status bytes (gave_all answer is (by_r
 
 -- too long is told only where more was left than the limit
 pub too_long_told : (words : List (List ℕ)) (old new : Input) (held held' : Output) (status : Status) (bytes : List ℕ)
-  → Came words old new held held' status → status ≡ TooLong → old.left ≡ Some bytes → MOST_INPUT < length bytes
+    → Came words old new held held' status → status ≡ TooLong → old.left ≡ Some bytes → MOST_INPUT < length bytes
 too_long_told words old new held held' status bytes (cut answer is cause part) e left = absurd (let f : WriteFault ≡ TooLong = sym is ∙ e in cc)
 too_long_told words old new held held' status bytes (wanting is run read same) e left = absurd (let f : NoMemory ≡ TooLong = sym is ∙ e in cc)
 too_long_told words old new held held' status bytes (gave_all answer is (by_words due none taken) all) e left = absurd (let f : Usage ≡ TooLong = sym due ∙ (sym is ∙ e) in cc)
@@ -217,7 +218,7 @@ too_long_told words old new held held' status bytes (gave_all answer is (by_run 
 
 -- done is told only where what was left is a job, and its run was printed whole
 pub done_told : (words : List (List ℕ)) (old new : Input) (held held' : Output) (status : Status) (bytes : List ℕ)
-  → Came words old new held held' status → status ≡ Done → old.left ≡ Some bytes → PrintsRun bytes held held'
+    → Came words old new held held' status → status ≡ Done → old.left ≡ Some bytes → PrintsRun bytes held held'
 done_told words old new held held' status bytes (cut answer is cause part) e left = absurd (let f : WriteFault ≡ Done = sym is ∙ e in cc)
 done_told words old new held held' status bytes (wanting is run read same) e left = absurd (let f : NoMemory ≡ Done = sym is ∙ e in cc)
 done_told words old new held held' status bytes (gave_all answer is (by_words due none taken) all) e left = absurd (let f : Usage ≡ Done = sym due ∙ (sym is ∙ e) in cc)
@@ -227,14 +228,19 @@ done_told words old new held held' status bytes (gave_all answer is (by_form due
 done_told words old new held held' status bytes (gave_all answer is (by_run due text plan s m run read job faithful done text_is) all) e left =
     let P : List ℕ → Type 0 = λ t. PrintsRun t held held' in
     subst P (whole_is old new MOST_INPUT _ _ left read) (record {
-      plan = plan; schedule = s; machine = m; is_job = job; run = faithful; done = done;
-      printed = all ∙ ap (appended held) text_is
+      plan = plan;
+      schedule = s;
+      machine = m;
+      is_job = job;
+      run = faithful;
+      done = done;
+      printed = all ∙ ap (appended held) text_is;
     })
 
 -- where no fault is counted, the command on what was left comes to what is due for it
 pub due_for : (words : List (List ℕ)) (old new : Input) (held held' : Output) (status : Status) (bytes : List ℕ)
-  → Came words old new held held' status → IsRun words → old.left ≡ Some bytes → IsQuiet old.faults new.faults → IsQuiet held.faults held'.faults
-  → (status ≡ NoMemory) ⊎ (((status ≡ TooLong) × (MOST_INPUT < length bytes)) ⊎ (((status ≡ JobRefused) × (length bytes ≤ MOST_INPUT) × IsNoJob bytes) ⊎ ((status ≡ Done) × PrintsRun bytes held held')))
+    → Came words old new held held' status → IsRun words → old.left ≡ Some bytes → IsQuiet old.faults new.faults → IsQuiet held.faults held'.faults
+    → (status ≡ NoMemory) ⊎ (((status ≡ TooLong) × (MOST_INPUT < length bytes)) ⊎ (((status ≡ JobRefused) × (length bytes ≤ MOST_INPUT) × IsNoJob bytes) ⊎ ((status ≡ Done) × PrintsRun bytes held held')))
 due_for words old new held held' status bytes (cut answer is cause part) run left quiet_in quiet_out = absurd (quiet_out part.faults)
 due_for words old new held held' status bytes (wanting is run' read same) run left quiet_in quiet_out = inl is
 due_for words old new held held' status bytes (gave_all answer is (by_words due none taken) all) run left quiet_in quiet_out = absurd (none run)
@@ -247,5 +253,8 @@ due_for words old new held held' status bytes (gave_all answer is (by_form due t
     let q = subst P e (read.at_most, no_job) in
     inr (inr (inl (is ∙ due, q.0, q.1)))
 due_for words old new held held' status bytes (gave_all answer is (by_run due text plan s m run' read job faithful done text_is) all) run left quiet_in quiet_out =
-    inr (inr (inr (is ∙ due, done_told words old new held held' status bytes
-      (gave_all answer is (by_run due text plan s m run' read job faithful done text_is) all) (is ∙ due) left)))
+    inr (inr (inr (
+      is ∙ due,
+      done_told words old new held held' status bytes
+          (gave_all answer is (by_run due text plan s m run' read job faithful done text_is) all) (is ∙ due) left,
+    )))

@@ -40,8 +40,8 @@ record Load (f : Fields) : Type 0 where
 
 first_add : (f : Fields) → (add_rests f || add_computes f) ≡ true
     → ((f.op_add ≡ 0) ⊎ ((f.op_add ≡ 12) ⊎ (f.op_add ≡ 21)))
-      × (((32 ≤ f.waddr_add) × (f.waddr_add ≤ 35)) ⊎ (f.waddr_add ≡ 39))
-      × (f.add_a ≤ 3) × (f.add_b ≤ 3)
+    × (((32 ≤ f.waddr_add) × (f.waddr_add ≤ 35)) ⊎ (f.waddr_add ≡ 39))
+    × (f.add_a ≤ 3) × (f.add_b ≤ 3)
 first_add f e = (grind (arith, nat_tests), grind (arith, nat_tests), grind (arith, nat_tests), grind (arith, nat_tests))
 
 six : (a b c d g h : Bool) → (a && b && c && d && g && h) ≡ true
@@ -66,7 +66,7 @@ rows_of f e = (grind (arith, nat_tests), grind (arith, nat_tests))
 alu_of : (f : Fields) → is_first_alu f ≡ true → Alu f
 alu_of f e =
     let parts = six ((f.sig == 1) || (f.sig == 3)) (packs_nothing f) (keeps_flags_and_files f) (mul_rests f)
-      (reads_no_row f) (add_rests f || add_computes f) e in
+    (reads_no_row f) (add_rests f || add_computes f) e in
     let packing = packing_of f parts.1 in
     let mul = mul_of f parts.3 in
     let rows = rows_of f parts.4 in
@@ -91,7 +91,7 @@ alu_of f e =
 load_of : (f : Fields) → f.kind ≡ f.unpack → is_first_load f ≡ true → Load f
 load_of f kind e =
     let parts = six (f.sig == 14) (packs_nothing f) (keeps_flags_and_files f) (f.cond_add == 1)
-      (is_accumulator f.waddr_add) (mul_writes_nothing f) e in
+    (is_accumulator f.waddr_add) (mul_writes_nothing f) e in
     record {
       sig = eqb-true f.sig 14 parts.0;
       kind = kind ∙ (packing_of f parts.1).0;
@@ -154,9 +154,10 @@ first_cases w e =
 pub first_word_profile : (w : ℕ) → is_first_word w ≡ true → word_fault w ≡ None
 unfolding word_fault
 first_word_profile w e =
-    elim (first_cases w e)
-    [ inl alu ↦ none_found (has_fault (fields_of w)) all_faults (λ fault. alu_faults (fields_of w) fault alu)
-    | inr load ↦ none_found (has_fault (fields_of w)) all_faults (λ fault. load_faults (fields_of w) fault load) ]
+    elim (first_cases w e) [
+      | inl alu ↦ none_found (has_fault (fields_of w)) all_faults (λ fault. alu_faults (fields_of w) fault alu)
+      | inr load ↦ none_found (has_fault (fields_of w)) all_faults (λ fault. load_faults (fields_of w) fault load)
+    ]
 
 -- it touches its processor alone
 pub first_word_local : (w : ℕ) → is_first_word w ≡ true → is_local (fields_of w) ≡ true
@@ -183,6 +184,7 @@ alu_below f w = grind (arith, w.waddr_add)
 -- it writes no address above 39
 pub first_word_writes : (w : ℕ) (address : ℕ) → 40 ≤ address → is_first_word w ≡ true → writes (fields_of w) address ≡ false
 first_word_writes w address high e =
-    elim (first_cases w e)
-    [ inl alu ↦ writes_elsewhere (fields_of w) address (omega (arith, high, alu_below (fields_of w) alu)) (omega (arith, high, alu.waddr_mul))
-    | inr load ↦ writes_elsewhere (fields_of w) address (omega (arith, high, load.at_most)) (omega (arith, high, load.waddr_mul)) ]
+    elim (first_cases w e) [
+      | inl alu ↦ writes_elsewhere (fields_of w) address (omega (arith, high, alu_below (fields_of w) alu)) (omega (arith, high, alu.waddr_mul))
+      | inr load ↦ writes_elsewhere (fields_of w) address (omega (arith, high, load.at_most)) (omega (arith, high, load.waddr_mul))
+    ]

@@ -11,17 +11,17 @@ use Rattle.qpu_io.specs.Text.{in_turn}
 use Rattle.qpu_tool.specs.FirstForm.{IsFirstWord}
 use Rattle.qpu_tool.specs.Job.{Plan, word_line, job_text, EndsThirdFromLast, IsJob}
 use Rattle.qpu_word.specs.Words.{fields_of, is_program_end}
-use Rattle.qpu_tool.specs.Reading.{word_numbers, after_word, word_at, after_closing, Opening, opening_at, IsRun, IsWholeRun, IsLongRun}
+use Rattle.qpu_tool.specs.Reading.{word_numbers, after_word, word_at, after_closing, Opening, opening_at, IsWordRun, IsWholeWordRun, IsLongWordRun}
 use Rattle.qpu_tool.proofs.ReadingLaws.{opening_found, opening_only, line_found, line_only, closing_found, closing_only}
 
 -- runs of words
 
-pub run_none : (text : List ℕ) → IsRun text [] text
+pub run_none : (text : List ℕ) → IsWordRun text [] text
 run_none text = record { is = refl; first = All-nil IsFirstWord }
 
 -- one more word of a run
-pub run_more : (text words rest : List ℕ) (w : ℕ) (behind : List ℕ) → IsRun text words rest
-    → word_at rest ≡ Some (w, behind) → IsRun text (words ++ (w ∷ [])) behind
+pub run_more : (text words rest : List ℕ) (w : ℕ) (behind : List ℕ) → IsWordRun text words rest
+    → word_at rest ≡ Some (w, behind) → IsWordRun text (words ++ (w ∷ [])) behind
 run_more text words rest w behind run e =
     let line = line_found rest w behind e in
     let more : flat_map word_line (words ++ (w ∷ [])) ≡ flat_map word_line words ++ word_line w =
@@ -119,7 +119,7 @@ record ReadsJob (plan : Plan) (name : List ℕ) (o : Opening) (words rest : List
   tail : rest ≡ closing_text name
 
 reads_job : (text : List ℕ) (o : Opening) (words rest : List ℕ) → opening_at text ≡ Some o
-    → IsWholeRun o.rest words rest → (plan : Plan) (job : IsJob text plan) → ReadsJob plan job.name o words rest
+    → IsWholeWordRun o.rest words rest → (plan : Plan) (job : IsJob text plan) → ReadsJob plan job.name o words rest
 reads_job text o words rest e whole plan job =
     let same : opening_by plan job.name ≡ o =
     some_same (opening_at text) (opening_by plan job.name) o (opening_of_job text plan job) e in
@@ -139,7 +139,7 @@ reads_job text o words rest e whole plan job =
 pub no_opening : (text : List ℕ) → opening_at text ≡ None → (plan : Plan) → IsJob text plan → ⊥
 no_opening text none plan job = let some = opening_of_job text plan job in cc
 
-pub too_long : (text : List ℕ) (o : Opening) → opening_at text ≡ Some o → IsLongRun o.rest → (plan : Plan)
+pub too_long : (text : List ℕ) (o : Opening) → opening_at text ≡ Some o → IsLongWordRun o.rest → (plan : Plan)
     → IsJob text plan → ⊥
 too_long text o e long plan job =
     let same : opening_by plan job.name ≡ o =
@@ -151,20 +151,20 @@ too_long text o e long plan job =
     absurd (omega (arith, within, long.long, job.program.at_most))
 
 pub no_closing : (text : List ℕ) (o : Opening) (words rest : List ℕ) → opening_at text ≡ Some o
-    → IsWholeRun o.rest words rest → (after_closing o.name rest ≡ Some [] → ⊥) → (plan : Plan) → IsJob text plan → ⊥
+    → IsWholeWordRun o.rest words rest → (after_closing o.name rest ≡ Some [] → ⊥) → (plan : Plan) → IsJob text plan → ⊥
 no_closing text o words rest e whole refused plan job =
     let read = reads_job text o words rest e whole plan job in
     refused (rw (read.name_is, read.tail) (closing_only job.name []))
 
 pub no_program : (text : List ℕ) (o : Opening) (words rest : List ℕ) → opening_at text ≡ Some o
-    → IsWholeRun o.rest words rest → ((3 ≤ length words) × EndsThirdFromLast words → ⊥) → (plan : Plan) → IsJob text plan → ⊥
+    → IsWholeWordRun o.rest words rest → ((3 ≤ length words) × EndsThirdFromLast words → ⊥) → (plan : Plan) → IsJob text plan → ⊥
 no_program text o words rest e whole refused plan job =
     let read = reads_job text o words rest e whole plan job in
     let P : List ℕ → Type 0 = λ z. (3 ≤ length z) × EndsThirdFromLast z in
     refused (subst P (sym read.code) (job.program.at_least, job.program.ends))
 
 pub no_limit : (text : List ℕ) (o : Opening) (words rest : List ℕ) → opening_at text ≡ Some o
-    → IsWholeRun o.rest words rest → o.limit < length words → (plan : Plan) → IsJob text plan → ⊥
+    → IsWholeWordRun o.rest words rest → o.limit < length words → (plan : Plan) → IsJob text plan → ⊥
 no_limit text o words rest e whole small plan job =
     let read = reads_job text o words rest e whole plan job in
     let long : length words ≡ length plan.code = ap (λ (z : List ℕ). length z) read.code in
@@ -173,7 +173,7 @@ no_limit text o words rest e whole small plan job =
 -- a job that was read
 
 pub built : (text : List ℕ) (o : Opening) (words rest : List ℕ) → opening_at text ≡ Some o
-    → IsWholeRun o.rest words rest → after_closing o.name rest ≡ Some [] → (3 ≤ length words) × EndsThirdFromLast words
+    → IsWholeWordRun o.rest words rest → after_closing o.name rest ≡ Some [] → (3 ≤ length words) × EndsThirdFromLast words
     → length words ≤ o.limit → IsJob text (record { memory = o.memory; limit = o.limit; code = words })
 unfolding job_text in_turn
 built text o words rest e whole closed program enough =

@@ -3,5 +3,8 @@ pub mod Digits
 pub mod ReadingLaws
 pub mod JobLaws
 pub mod CodeLemmas
+pub mod RecordLemmas
+pub mod ReportLaws
 pub mod StraightLemmas
+pub mod RunTexts
 pub mod AnswerLemmas

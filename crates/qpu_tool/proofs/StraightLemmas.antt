@@ -71,13 +71,13 @@ halt_moves f p n i below plain ends rest = rw (plain, ends, rest) (halt_goes n i
 
 -- one word later a processor stands one word further
 stands_later : (f : Fields) (p after : ProcessorState) (n i : ℕ) → i < n → is_branch f ≡ false → is_program_end f ≡ (i + 3 == n)
-  → Moves f p after → StandsAt n i p → StandsAt n (i + 1) after
+    → Moves f p after → StandsAt n i p → StandsAt n (i + 1) after
 stands_later f p after n i below plain ends moves stands = record {
   q = moves.q ∙ stands.q;
   executed = moves.executed ∙ ap (λ k. k + 1) stands.executed;
   place = moves.place ∙ place_moves f p n i plain stands.rest stands.place;
   rest = moves.rest ∙ rest_moves f p n i plain ends stands.rest;
-  halt = moves.halt ∙ halt_moves f p n i below plain ends stands.rest
+  halt = moves.halt ∙ halt_moves f p n i below plain ends stands.rest;
 }
 
 -- the machine of a job with its processor, written out
@@ -101,11 +101,12 @@ pub is_opening : (plan : Plan) → 3 ≤ length plan.code → IsAfter plan 0 (op
 unfolding opening_processor
 is_opening plan long = record {
   stands = record { q = refl; executed = refl; place = refl; rest = opening_rest (length plan.code) long; halt = opening_halt (length plan.code) long };
-  ran = begun
+  ran = begun;
 }
   where
     opening_rest : (n : ℕ) → 3 ≤ n → Straight ≡ rest_at n 0
     opening_rest n long = grind (arith, nat_tests)
+
     opening_halt : (n : ℕ) → 3 ≤ n → Going ≡ halt_at n 0
     opening_halt n long = grind (arith, nat_tests)
 
@@ -113,7 +114,7 @@ is_opening plan long = record {
 pub first_word_done : (is_link : ℕ → Bool) (w : ℕ) (p : ProcessorState) → is_first_word w ≡ true → local_result is_link w p ≡ Ok (done (fields_of w) p no_ins p.book)
 first_word_done is_link w p first =
     local_result_plain is_link w p (first_word_not_branch w first)
-      (first_word_writes w WRITE_VPM_SETUP (omega arith) first) (first_word_writes w WRITE_UNIFORMS_ADDRESS (omega arith) first)
+    (first_word_writes w WRITE_VPM_SETUP (omega arith) first) (first_word_writes w WRITE_UNIFORMS_ADDRESS (omega arith) first)
 
 going_runs : (n i limit : ℕ) (p : ProcessorState) → i < n → n ≤ limit → StandsAt n i p → is_running limit p ≡ true
 going_runs n i limit p below enough stands =
@@ -123,18 +124,18 @@ going_runs n i limit p below enough stands =
 
 -- one more word
 pub is_after_more : (plan : Plan) (i w : ℕ) (p after : ProcessorState) → length plan.code ≤ plan.limit → IsWordAt plan i w
-  → after ≡ done (fields_of w) p no_ins p.book → IsAfter plan i p → IsAfter plan (i + 1) after
+    → after ≡ done (fields_of w) p no_ins p.book → IsAfter plan i p → IsAfter plan (i + 1) after
 is_after_more plan i w p after enough word is before =
     let at : slice_index plan.code p.place ≡ w = ap (slice_index plan.code) before.stands.place ∙ word.is in
     let P : ProcessorState → Type 0 = IsAfter plan (i + 1) in
     subst P (sym is) (record {
       stands = stands_later (fields_of w) p (done (fields_of w) p no_ins p.book) (length plan.code) i word.below (first_word_not_branch w word.first) word.ends
-        (done_moves (fields_of w) p no_ins p.book) before.stands;
+          (done_moves (fields_of w) p no_ins p.book) before.stands;
       ran = ran_alone (replicate plan.memory 0) plan.limit plan.code (opening_processor 0 0) p (done (fields_of w) p no_ins p.book) i
-        (going_runs (length plan.code) i plan.limit p word.below enough before.stands)
-        (rw at (first_word_local w word.first))
-        (rw at (first_word_done (is_link_point plan.code) w p word.first))
-        before.ran
+          (going_runs (length plan.code) i plan.limit p word.below enough before.stands)
+          (rw at (first_word_local w word.first))
+          (rw at (first_word_done (is_link_point plan.code) w p word.first))
+          before.ran;
     })
 
 same_ok : (a b : ProcessorState) → ◌≡◌ {A = Result ProcessorState FaultKind} (Ok a) (Ok b) → a ≡ b
@@ -145,7 +146,7 @@ not_err kind b e = cc
 
 -- the call of a step did what was due
 pub steps_done : (fault : Option FaultKind) (due : Result ProcessorState FaultKind) (old new after : ProcessorState)
-  → Steps fault due old new → due ≡ Ok after → new ≡ after
+    → Steps fault due old new → due ≡ Ok after → new ≡ after
 steps_done None due old new after steps is = same_ok new after (sym steps ∙ is)
 steps_done (Some kind) due old new after steps is = absurd (not_err kind after (sym steps.0 ∙ is))
 
@@ -155,7 +156,7 @@ word_at plan i program below = record {
   below = below;
   is = refl;
   first = (program.words i 0 below).form;
-  ends = program.ends i below
+  ends = program.ends i below;
 }
 
 -- what a step asks for, where a processor stands before a word
@@ -175,24 +176,24 @@ is_ready plan i p program below after =
       executed = omega (arith, after.stands.executed, below, program.at_most);
       place = omega (arith, after.stands.place, below);
       profile = rw after.stands.place (first_word_profile (slice_index plan.code i) first);
-      local = rw after.stands.place (first_word_local (slice_index plan.code i) first)
+      local = rw after.stands.place (first_word_local (slice_index plan.code i) first);
     }
 
 -- a step takes it to the next word
 pub one_more_word : (plan : Plan) (i : ℕ) (p after : ProcessorState) (fault : Option FaultKind) → IsFirstProgram plan.code → length plan.code ≤ plan.limit
-  → i < length plan.code → Steps fault (local_result (is_link_point plan.code) (slice_index plan.code p.place) p) p after
-  → IsAfter plan i p → IsAfter plan (i + 1) after
+    → i < length plan.code → Steps fault (local_result (is_link_point plan.code) (slice_index plan.code p.place) p) p after
+    → IsAfter plan i p → IsAfter plan (i + 1) after
 one_more_word plan i p after fault program enough below steps before =
     let first = (program.words i 0 below).form in
     let at : slice_index plan.code p.place ≡ slice_index plan.code i = ap (slice_index plan.code) before.stands.place in
     let due : local_result (is_link_point plan.code) (slice_index plan.code p.place) p ≡ Ok (done (fields_of (slice_index plan.code i)) p no_ins p.book) =
-      rw at (first_word_done (is_link_point plan.code) (slice_index plan.code i) p first) in
+    rw at (first_word_done (is_link_point plan.code) (slice_index plan.code i) p first) in
     is_after_more plan i (slice_index plan.code i) p after enough (word_at plan i program below)
-      (steps_done fault (local_result (is_link_point plan.code) (slice_index plan.code p.place) p) p after (done (fields_of (slice_index plan.code i)) p no_ins p.book) steps due)
-      before
+    (steps_done fault (local_result (is_link_point plan.code) (slice_index plan.code p.place) p) p after (done (fields_of (slice_index plan.code i)) p no_ins p.book) steps due)
+    before
 
 -- it is the machine of the job with this processor
-with_is_alone : (plan : Plan) (p : ProcessorState) → machine_with plan p ≡ alone_with plan p
+pub with_is_alone : (plan : Plan) (p : ProcessorState) → machine_with plan p ≡ alone_with plan p
 unfolding opening_machine machine_of
 with_is_alone plan p = refl
 
@@ -209,13 +210,13 @@ ended plan p after = after.stands.halt ∙ ends_last (length plan.code)
 
 -- and the run is the one that was promised
 pub faithful : (plan : Plan) (p : ProcessorState) → IsAfter plan (length plan.code) p
-  → FaithfulRun plan (replicate (length plan.code) (Exec 0)) (machine_with plan p)
+    → FaithfulRun plan (replicate (length plan.code) (Exec 0)) (machine_with plan p)
 faithful plan p after =
     let final = final_alone (replicate plan.memory 0) plan.limit plan.code p (ended plan p after) in
     rw (with_is_alone plan p) (record {
       permitted = rw (opening_is_alone plan) (ran_after after.ran);
       complete = final;
-      serial = rw (opening_is_alone plan) (serial_alone after.ran final)
+      serial = rw (opening_is_alone plan) (serial_alone after.ran final);
     })
 
 -- how it has come out
@@ -224,8 +225,8 @@ comes_out_done plan p halted = rw (with_is_alone plan p) (ending_alone (replicat
 
 -- the same, for the words as they stand in a job
 pub one_more_of : (job : Job) (words : List Word) (i : ℕ) (p after : ProcessorState) (fault : Option FaultKind) → words ≡ job.words.items
-  → IsFirstProgram (plan_of job).code → length (plan_of job).code ≤ (plan_of job).limit → i < length (plan_of job).code
-  → Steps fault (local_result (is_link_point (word_numbers words)) (slice_index (word_numbers words) p.place) p) p after
-  → IsAfter (plan_of job) i p → IsAfter (plan_of job) (i + 1) after
+    → IsFirstProgram (plan_of job).code → length (plan_of job).code ≤ (plan_of job).limit → i < length (plan_of job).code
+    → Steps fault (local_result (is_link_point (word_numbers words)) (slice_index (word_numbers words) p.place) p) p after
+    → IsAfter (plan_of job) i p → IsAfter (plan_of job) (i + 1) after
 one_more_of job words i p after fault same program enough below steps before =
     one_more_word (plan_of job) i p after fault program enough below (rw same at steps) before

@@ -2,6 +2,7 @@ pub mod FirstForm
 pub mod Job
 pub mod Reading
 pub mod Plans
+pub mod Ended
 pub mod Opening
 pub mod Run
 pub mod Statuses

@@ -11,7 +11,7 @@ use Rattle.qpu_word.specs.declared.code.TheConstants.{LIMIT_MOST, PROGRAM_WORDS}
 use Rattle.qpu_word.specs.declared.word.Word.{Word}
 use Rattle.qpu_word.specs.Words.{between}
 use Rattle.qpu_tool.specs.declared.job.TheConstants.{MOST_MEMORY, MOST_DIGITS, MOST_NAME}
-use Rattle.qpu_tool.specs.declared.job.line.TheConstants.{WORD_DIGITS}
+use Rattle.qpu_tool.specs.declared.job.line.TheConstants.{WORD_DIGITS, DECIMAL, HEXADECIMAL, HEX_A, HEX_F}
 use Rattle.qpu_tool.specs.declared.job.opening.Opening.{Opening as OpeningLines}
 use Rattle.qpu_tool.specs.FirstForm.{is_first_word, IsFirstWord}
 use Rattle.qpu_tool.specs.Job.{is_name_byte, word_line}
@@ -28,7 +28,7 @@ run_at passes most text =
 
 -- a decimal number at the front of a text
 unfoldable pub number_at : List ℕ → Option (ℕ × List ℕ)
-number_at text = option_map (λ run. (digits_value 10 run.0, run.1)) (run_at is_ascii_digit MOST_DIGITS text)
+number_at text = option_map (λ run. (digits_value DECIMAL run.0, run.1)) (run_at is_ascii_digit MOST_DIGITS text)
 
 -- the end of a line behind a value
 unfoldable pub line_end_at : {A : Type 0} → A → List ℕ → Option (A × List ℕ)
@@ -67,13 +67,13 @@ opening_at text =
 
 -- a lower-case hexadecimal digit
 abbrev pub is_hex_digit : ℕ → Bool
-is_hex_digit b = is_ascii_digit b || between 97 b 102
+is_hex_digit b = is_ascii_digit b || between HEX_A b HEX_F
 
 -- sixteen hexadecimal digits at the front of a text
 unfoldable pub hex_at : List ℕ → Option (ℕ × List ℕ)
 hex_at text =
     if nat_le WORD_DIGITS (length text) && list_all is_hex_digit (take WORD_DIGITS text)
-    then Some (digits_value 16 (take WORD_DIGITS text), drop WORD_DIGITS text)
+    then Some (digits_value HEXADECIMAL (take WORD_DIGITS text), drop WORD_DIGITS text)
     else None
 
 -- the line of a word of the first form
@@ -89,21 +89,21 @@ after_closing name text =
     (after_word (codes "endprogram\nstart 0 ") text)
 
 -- lines of words of the first form at the front of a text, and what stands behind them
-pub record IsRun (text words rest : List ℕ) : Type 0 where
+pub record IsWordRun (text words rest : List ℕ) : Type 0 where
   pub is : text ≡ flat_map word_line words ++ rest
   pub first : All IsFirstWord words
 
 -- all such lines at the front of a text, where they aren't too many
-pub record IsWholeRun (text words rest : List ℕ) : Type 0 where
-  pub run : IsRun text words rest
+pub record IsWholeWordRun (text words rest : List ℕ) : Type 0 where
+  pub run : IsWordRun text words rest
   pub few : length words ≤ PROGRAM_WORDS
   pub stops : word_at rest ≡ None
 
 -- too many such lines stand at the front of a text
-pub record IsLongRun (text : List ℕ) : Type 0 where
+pub record IsLongWordRun (text : List ℕ) : Type 0 where
   pub words : List ℕ
   pub rest : List ℕ
-  pub run : IsRun text words rest
+  pub run : IsWordRun text words rest
   pub long : PROGRAM_WORDS < length words
 
 -- words as their numbers

@@ -3,12 +3,11 @@ ghost use Rattle.std.specs.Prelude.{◌≡◌, ◌<◌, ◌↔◌, ◌⊎◌, �
 ghost use Rattle.qpu_io.specs.Faults.{Rose};
 ghost use Rattle.qpu_tool.specs.Answers.{IsRun, IsNoJob, IsQuiet, NothingLeft, PrintsRun, AnswersTo, Gives, Judged, Outcome, usage, read_fault, too_long, not_built};
 
-use qpu_io::{ReadAllError, Sink, Source, read_all, write_all_of};
-use std::alloc::Global;
-
 use crate::job::{JobFault, read_job};
 use crate::run::write_run;
 use crate::status::Status;
+use qpu_io::{ReadAllError, Sink, Source, read_all, write_all_of};
+use std::alloc::Global;
 
 /// Bytes of the longest input.
 pub const MOST_INPUT: u64 = 8_388_608;

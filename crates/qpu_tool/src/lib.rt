@@ -7,9 +7,10 @@
 mod code;
 mod command;
 mod job;
+mod record;
+mod report;
 mod run;
 mod status;
 
-pub use command::MOST_INPUT;
-pub use command::plain;
+pub use command::{MOST_INPUT, plain};
 pub use status::Status;

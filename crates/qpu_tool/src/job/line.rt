@@ -15,6 +15,16 @@ use qpu_word::Word;
 /// Hexadecimal digits of a word.
 pub const WORD_DIGITS: usize = 16;
 
+/// The radixes of numbers and of words.
+pub const DECIMAL: u64 = 10;
+
+pub const HEXADECIMAL: u64 = 16;
+
+/// The first and the last letter that is a hexadecimal digit.
+pub const HEX_A: u8 = b'a';
+
+pub const HEX_F: u8 = b'f';
+
 /// A number from `low` to `high` behind a word, on a line.
 #[tactic(auto, unfolding(crate::specs::Reading::number_line, crate::specs::Reading::line_end_at))]
 pub fn number_line<'a>(word: &[u8], low: u32, high: u32, text: &'a [u8]) -> Option<(u32, &'a [u8])>
@@ -83,7 +93,7 @@ fn number_at(text: &[u8]) -> Option<(u64, &[u8])>
         return None;
     }
     let (digits, rest) = text.split_at(count);
-    Some((value_of(10, digits), rest))
+    Some((value_of(DECIMAL, digits), rest))
 }
 
 // A name, of at most 32 bytes.
@@ -110,7 +120,7 @@ fn hex_at(text: &[u8]) -> Option<(u64, &[u8])>
     if !all_hex(digits) {
         return None;
     }
-    Some((value_of(16, digits), rest))
+    Some((value_of(HEXADECIMAL, digits), rest))
 }
 
 // How many decimal digits stand at the front.
@@ -144,13 +154,13 @@ fn all_hex(digits: &[u8]) -> bool
 fn is_hex_digit(b: u8) -> bool
     ensures { result ≡ is_hex_digit b }
 {
-    b.is_ascii_digit() || b'a' <= b && b <= b'f'
+    b.is_ascii_digit() || HEX_A <= b && b <= HEX_F
 }
 
 // The number that digits spell, of a radix of 2 to 16.
 fn value_of(radix: u64, digits: &[u8]) -> u64
-    requires radix { (2 ≤ radix) × (radix ≤ 16) }
-    requires few { length digits.now ≤ 16 }
+    requires radix { (2 ≤ radix) × (radix ≤ HEXADECIMAL) }
+    requires few { length digits.now ≤ WORD_DIGITS }
     requires digits { AllDigits radix digits.now }
     requires lower_case { IsTrue (list_all is_hex_digit digits.now) }
     ensures { result ≡ digits_value radix digits.now }
@@ -167,5 +177,5 @@ fn digit_value(b: u8) -> u64
     requires { IsTrue (is_hex_digit b) }
     ensures { result ≡ digit_value b }
 {
-    u64::from(if b <= b'9' { b - b'0' } else { b - b'a' + 10 })
+    u64::from(if b <= b'9' { b - b'0' } else { b - HEX_A + 10 })
 }

@@ -3,7 +3,7 @@
 ghost use Rattle.std.specs.Prelude.{◌≡◌, ◌≤◌, ◌↔◌, IfOk, IsErrOf, IsTrue, length};
 ghost use Rattle.qpu_word.specs.Words.{fields_of, is_program_end};
 ghost use Rattle.qpu_tool.specs.Job.{EndsThirdFromLast};
-ghost use Rattle.qpu_tool.specs.Reading.{word_numbers, IsWholeRun, IsLongRun};
+ghost use Rattle.qpu_tool.specs.Reading.{word_numbers, IsWholeWordRun, IsLongWordRun};
 
 use crate::job::line::word_at;
 use crate::job::{FEWEST_WORDS, JobFault};
@@ -12,9 +12,11 @@ use qpu_word::code::{PROGRAM_WORDS, SIGNAL_PROGRAM_END};
 use std::alloc::Global;
 
 /// Reads words of the first form, to the first line that is none, and gives what stands from there.
+///
+/// `NotBuilt` says that more than 4,096 such lines stand at the front.
 pub fn read_words(alloc: Global, text: &[u8]) -> Result<(Vec<Word>, &[u8]), JobFault>
-    ensures whole { IfOk result (λ r. IsWholeRun text.now (word_numbers r.0.items) r.1.now) }
-    ensures long { IsErrOf result JobFault.NotBuilt → IsLongRun text.now }
+    ensures whole { IfOk result (λ r. IsWholeWordRun text.now (word_numbers r.0.items) r.1.now) }
+    ensures long { IsErrOf result JobFault.NotBuilt → IsLongWordRun text.now }
 {
     let mut words = Vec::new(alloc);
     let mut rest = text;

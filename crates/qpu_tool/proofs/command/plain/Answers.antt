@@ -18,5 +18,5 @@ returns g c =
       too_long = λ bytes left is. too_long_told _ _ _ _ _ _ bytes k is left;
       job_refused = λ bytes left is. job_refused_told _ _ _ _ _ _ bytes k is left;
       done = λ bytes left is. done_told _ _ _ _ _ _ bytes k is left;
-      complete = λ bytes run left quiet_in quiet_out. due_for _ _ _ _ _ _ bytes k run left quiet_in quiet_out
+      complete = λ bytes run left quiet_in quiet_out. due_for _ _ _ _ _ _ bytes k run left quiet_in quiet_out;
     }

@@ -21,11 +21,11 @@ pub loop-i-preserved : goal.loop-i-preserved
 loop-i-preserved c =
     let below = below_numbers _ _ c.loop-i.i c.deref.ensures.value c.loop-i-test.true in
     one_more_of c.args.job.now c.deref.result.now c.loop-i.i c.loop-i.processor c.step_local-fault.new.self c.step_local-fault.result
-      c.deref.ensures.value c.requires.program c.requires.enough below c.step_local-fault.ensures c.loop-i.invariant
+    c.deref.ensures.value c.requires.program c.requires.enough below c.step_local-fault.ensures c.loop-i.invariant
 
 pub returns-clause-run : goal.returns-clause-run
 returns-clause-run c =
     let all : c.loop-i.i ≡ length c.deref.result.now = omega arith in
     let P : ℕ → Type 0 = λ n. IsAfter (plan_of c.args.job.now) n c.loop-i.processor in
     faithful (plan_of c.args.job.now) c.loop-i.processor
-      (subst P (end_of_numbers _ _ c.loop-i.i c.deref.ensures.value all) c.loop-i.invariant)
+    (subst P (end_of_numbers _ _ c.loop-i.i c.deref.ensures.value all) c.loop-i.invariant)

@@ -2,7 +2,7 @@
 use Rattle.std.proofs.Common.{◌≡◌, List, [], ◌∷◌, ◌++◌, sym, ◌∙◌, ap, subst, arith, ℕ}
 use Rattle.std.proofs.lemmas.List.{map_push, length-map, length-append}
 use Rattle.qpu_word.specs.declared.word.Word.{Word}
-use Rattle.qpu_tool.specs.Reading.{word_numbers, IsRun}
+use Rattle.qpu_tool.specs.Reading.{word_numbers, IsWordRun}
 use Rattle.qpu_tool.proofs.JobLaws.{run_more}
 use Rattle.qpu_tool.proofs.job.words.read_words.Goals as goal
 
@@ -27,6 +27,6 @@ loop-words-preserved c =
     let run = run_more c.args.text.now words c.loop-words.rest.now c.in-Some.word.0 c.in-Some.behind.now
     c.loop-words.invariant.run (sym c.in-Some.ensures) in
     record {
-      run = subst (λ (z : List ℕ). IsRun c.args.text.now z c.in-Some.behind.now) (sym pushed) run;
+      run = subst (λ (z : List ℕ). IsWordRun c.args.text.now z c.in-Some.behind.now) (sym pushed) run;
       few = omega (arith, c.in-Ok.ensures.len);
     }
