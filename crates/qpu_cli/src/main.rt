@@ -1,12 +1,11 @@
 //! The program: standard input and output, its arguments, and the exit status.
 #![tactic(auto)]
 
+use qpu_io::{StdSink, StdSource};
+use qpu_tool::plain;
 use std::env;
 use std::process::ExitCode;
 use std::rt::Env;
-
-use qpu_io::{StdSink, StdSource};
-use qpu_tool::plain;
 
 /// The words after the program's own name; none where they can't be read, which is no command.
 fn words<R: Env + AllocGlobal>(rt: &R) -> Vec<String> {
