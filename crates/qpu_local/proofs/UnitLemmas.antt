@@ -1,5 +1,5 @@
 -- What the units make of operands that are read lane by lane.
-use Rattle.std.proofs.Common.{◌≡◌, ℕ, ◌<◌, Bool, List, Option, Some, None, refl, ap, sym, ◌∙◌}
+use Rattle.std.proofs.Common.{◌≡◌, ℕ, ◌<◌, Bool, List, Option, Some, None, refl, ap, ◌∙◌}
 use Rattle.std.specs.Prelude.{option_map}
 use Rattle.qpu_word.specs.declared.word.Fields.{Fields}
 use Rattle.qpu_word.specs.declared.traffic.Ins.{Ins}
@@ -9,7 +9,7 @@ use Rattle.qpu_word.specs.Lanes.{lanes, lane, mask, Gives}
 use Rattle.qpu_word.specs.Operations.{add_result, add_carry, mul_result, add_op, mul_op}
 use Rattle.qpu_word.specs.Operands.{operand}
 use Rattle.qpu_word.specs.Processor.{ProcessorState}
-use Rattle.qpu_word.specs.Instruction.{add_lane, mul_lane, add_values, mul_values, add_carries, carry_mask}
+use Rattle.qpu_word.specs.Instruction.{add_values, mul_values, add_carries, carry_mask}
 use Rattle.qpu_word.proofs.LaneLemmas.{lanes_of_two, mask_same}
 
 -- the add unit's results

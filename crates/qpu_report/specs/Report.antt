@@ -1,5 +1,5 @@
 -- The text of a report of a final machine. This project's own.
-use Rattle.std.specs.Prelude.{ℕ, ◌+◌, ◌-◌, ◌*◌, ◌/◌, ◌%◌, ◌==◌, ◌&&◌, Bool, true, false, not, List, [], ◌∷◌, ◌++◌, length, map, flat_map, take, drop, decimal, codes, Option, Some, None, slice_index, if◌then◌else◌}
+use Rattle.std.specs.Prelude.{ℕ, ◌+◌, ◌-◌, ◌*◌, ◌/◌, ◌%◌, ◌==◌, Bool, true, false, List, [], ◌∷◌, length, flat_map, take, drop, decimal, codes, Option, Some, None, slice_index, if◌then◌else◌}
 use Rattle.std.specs.List.{list_all, range_with_len}
 use Rattle.qpu_io.specs.Text.{joined, in_turn, numbered, hex_digit, hex8, lanes_text}
 use Rattle.qpu_word.specs.declared.state.Flags.{Flags}
@@ -13,7 +13,7 @@ use Rattle.qpu_word.specs.declared.code.TheConstants.{VPM_ROWS, VPM_COLUMNS}
 use Rattle.qpu_word.specs.Words.{fields_of}
 use Rattle.qpu_word.specs.Processor.{ProcessorState}
 use Rattle.qpu_shared.specs.declared.cause.Cause.{Cause}
-use Rattle.qpu_shared.specs.declared.cause.Cause.TheVariants.{LoadWait, StoreWait, LoadStart, StoreStart, TmuLoad, Mutex, Up, Down}
+use Rattle.qpu_shared.specs.declared.cause.Cause.TheVariants.{Mutex, Up, Down}
 use Rattle.qpu_shared.specs.Instruction.{is_running, first_cause}
 use Rattle.qpu_machine.specs.declared.conclusion.Ending.{Ending}
 use Rattle.qpu_machine.specs.declared.conclusion.Ending.TheVariants.{Done, Stuck, RanOut, Faulted as SomeFaulted}
@@ -73,9 +73,9 @@ halt_text (Faulted kind at) running cause place =
 unfoldable pub processor_line : MachineState → ℕ → ProcessorState → List ℕ
 processor_line m q p =
     joined
-      ( codes "qpu " ∷ decimal q ∷ codes " "
-      ∷ halt_text p.halt (is_running m.limit p) (first_cause (fields_of (slice_index (words_of m q) p.place)) q m.shared) p.place
-      ∷ codes " executed " ∷ decimal p.executed ∷ codes " interrupts " ∷ decimal p.interrupts ∷ codes "\n" ∷ [] )
+    (codes "qpu " ∷ decimal q ∷ codes " "
+    ∷ halt_text p.halt (is_running m.limit p) (first_cause (fields_of (slice_index (words_of m q) p.place)) q m.shared) p.place
+    ∷ codes " executed " ∷ decimal p.executed ∷ codes " interrupts " ∷ decimal p.interrupts ∷ codes "\n" ∷ [])
 
 -- a mask as four hexadecimal digits
 abbrev pub hex4 : ℕ → List ℕ
@@ -100,12 +100,12 @@ flags_line flags = zn_line flags.zn flags.c
 unfoldable pub processor_text : MachineState → ℕ → ProcessorState → List ℕ
 processor_text m q p =
     in_turn
-      ( processor_line m q p
-      ∷ numbered (row_line (codes "ra")) 0 p.file_a
-      ∷ numbered (row_line (codes "rb")) 0 p.file_b
-      ∷ numbered (row_line (codes "r")) 0 p.accumulators
-      ∷ flags_line p.flags
-      ∷ [] )
+    (processor_line m q p
+    ∷ numbered (row_line (codes "ra")) 0 p.file_a
+    ∷ numbered (row_line (codes "rb")) 0 p.file_b
+    ∷ numbered (row_line (codes "r")) 0 p.accumulators
+    ∷ flags_line p.flags
+    ∷ [])
 
 -- the lines of a processor, where it was started
 abbrev pub started_text : MachineState → ℕ → Option ProcessorState → List ℕ
@@ -158,12 +158,12 @@ ending_line SomeFaulted = codes "ending faulted\n"
 unfoldable pub report_text : MachineState → List ℕ
 report_text m =
     in_turn
-      ( codes "report\n"
-      ∷ numbered (started_text m) 0 m.processors
-      ∷ vpm_text m.shared.vpm
-      ∷ memory_text m.shared.memory
-      ∷ numbered semaphore_line 0 m.shared.semaphores
-      ∷ mutex_line m.shared.mutex
-      ∷ ending_line (ending_of m)
-      ∷ codes "endreport\n"
-      ∷ [] )
+    (codes "report\n"
+    ∷ numbered (started_text m) 0 m.processors
+    ∷ vpm_text m.shared.vpm
+    ∷ memory_text m.shared.memory
+    ∷ numbered semaphore_line 0 m.shared.semaphores
+    ∷ mutex_line m.shared.mutex
+    ∷ ending_line (ending_of m)
+    ∷ codes "endreport\n"
+    ∷ [])

@@ -1,7 +1,7 @@
 -- What follows of the answer that was given.
-use Rattle.std.proofs.Common.{◌≡◌, ◌≢◌, ℕ, ◌+◌, ◌<◌, ◌≤◌, ◌⊎◌, inl, inr, Bool, true, false, List, [], ◌∷◌, length, Option, Some, None, IsTrue, IfSome, refl, ap, sym, subst, ◌∙◌, arith}
+use Rattle.std.proofs.Common.{◌≡◌, ℕ, ◌<◌, ◌≤◌, ◌⊎◌, inl, inr, Bool, true, false, List, length, Some, IsTrue, refl, ap, sym, subst, ◌∙◌, arith}
 use Rattle.qpu_io.specs.Faults.{Rose}
-use Rattle.qpu_io.specs.Input.{Input, Takes, ReadsToEnd, ReadsPast, ReadsPart, ReadBreaks}
+use Rattle.qpu_io.specs.Input.{Input, ReadsToEnd, ReadsPast, ReadsPart, ReadBreaks}
 use Rattle.qpu_io.specs.Output.{Output, appended, Cut}
 use Rattle.qpu_io.proofs.Inputs.{whole_is, past_is}
 use Rattle.qpu_machine.specs.declared.actor.Actor.{Actor}
@@ -14,7 +14,7 @@ use Rattle.qpu_tool.specs.declared.command.TheConstants.{MOST_INPUT}
 use Rattle.qpu_tool.specs.Statuses.{status_for}
 use Rattle.qpu_tool.specs.Job.{Plan, IsJob}
 use Rattle.qpu_tool.specs.Run.{FaithfulRun, run_text}
-use Rattle.qpu_tool.specs.Answers.{IsRun, Answer, usage, read_fault, too_long, not_built, run_answer, IsNoJob, AnswerTo, refused, ran, Due, wrong_words, broken, past, whole, Gives, Judged, answered, no_memory, Outcome, given, out_of_memory, PrintsRun, IsQuiet, NothingLeft}
+use Rattle.qpu_tool.specs.Answers.{IsRun, Answer, IsNoJob, AnswerTo, refused, ran, Due, wrong_words, broken, past, whole, Gives, Judged, answered, no_memory, Outcome, given, out_of_memory, PrintsRun, IsQuiet, NothingLeft}
 
 -- a test that is false isn't true
 pub not_both : (b : Bool) → b ≡ false → IsTrue b → ⊥

@@ -1,5 +1,5 @@
 -- The words of a program as numbers.
-use Rattle.std.proofs.Common.{◌≡◌, ℕ, ◌<◌, List, length, get_or, map, ap, ◌∙◌}
+use Rattle.std.proofs.Common.{◌≡◌, ℕ, ◌<◌, List, length, get_or, ap, ◌∙◌}
 use Rattle.std.proofs.lemmas.List.{get_or-map, length-map}
 use Rattle.qpu_word.specs.declared.word.Word.{Word}
 use Rattle.qpu_tool.specs.Reading.{word_numbers}

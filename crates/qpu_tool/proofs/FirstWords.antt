@@ -1,12 +1,12 @@
 -- What follows of a word that is of the first form: it is in the profile, local and no branch.
-use Rattle.std.proofs.Common.{◌≡◌, ℕ, ◌<◌, ◌≤◌, Bool, true, false, not, List, [], ◌∷◌, Option, Some, None, refl, ap, sym, ◌∙◌, ◌⊎◌, inl, inr, arith}
-use Rattle.std.specs.Prelude.{find, nat_le, ◌==◌, ◌&&◌, ◌||◌, if◌then◌else◌}
+use Rattle.std.proofs.Common.{◌≡◌, ℕ, ◌<◌, ◌≤◌, Bool, true, false, List, [], ◌∷◌, None, refl, ◌∙◌, ◌⊎◌, inl, inr, arith}
+use Rattle.std.specs.Prelude.{find, nat_le, ◌==◌, ◌&&◌, ◌||◌}
 use Rattle.std.proofs.lemmas.Bool.{and_parts, or_cases, eqb-true, leb-true}
 use Rattle.std.proofs.lemmas.Bool.Decides.{nat_tests}
 use Rattle.qpu_word.specs.declared.word.Fields.{Fields}
 use Rattle.qpu_word.specs.declared.fault.WordFault.{WordFault}
 use Rattle.qpu_word.specs.declared.fault.WordFault.TheVariants.{Signal, FloatOp, ReservedOp, ReadAddress, WriteAddress, Packing, BranchCond, LoadKind, Rotation, SemaphoreTarget, NoSource}
-use Rattle.qpu_word.specs.Words.{fields_of, has_fault, all_faults, word_fault, is_shared, is_local, is_branch, is_program_end, writes, add_writes, mul_writes}
+use Rattle.qpu_word.specs.Words.{fields_of, has_fault, all_faults, word_fault, is_shared, is_local, is_branch, writes, add_writes, mul_writes}
 use Rattle.qpu_tool.specs.FirstForm.{packs_nothing, keeps_flags_and_files, mul_writes_nothing, mul_rests, reads_no_row, add_rests, add_computes, is_accumulator, is_first_alu, is_first_load, is_first_word}
 
 -- what an arithmetic word of the first form is

@@ -1,17 +1,11 @@
 -- The text of a run of processor 0 alone.
-use Rattle.std.proofs.Common.{◌≡◌, ℕ, zero, suc, ◌+◌, ◌<◌, ◌≤◌, true, List, [], ◌∷◌, ◌++◌, length, replicate, Some, None, refl, ap, sym, subst, ◌∙◌, arith}
-use Rattle.std.specs.Prelude.{◌==◌}
+use Rattle.std.proofs.Common.{◌≡◌, ℕ, zero, suc, ◌+◌, ◌<◌, List, [], ◌∷◌, ◌++◌, length, replicate, refl, ap, sym, subst, ◌∙◌, arith}
 use Rattle.std.proofs.lemmas.List.{append-nil}
-use Rattle.std.proofs.lemmas.Bool.Decides.{nat_tests}
 use Rattle.qpu_io.specs.Output.{Output, appended, Cut}
 use Rattle.qpu_io.specs.Text.{in_turn}
 use Rattle.qpu_word.specs.declared.state.Halt.TheVariants.{Ended}
 use Rattle.qpu_word.specs.Processor.{ProcessorState}
-use Rattle.qpu_shared.specs.SharedState.{opening_shared}
-use Rattle.qpu_machine.specs.declared.actor.Actor.{Actor}
 use Rattle.qpu_machine.specs.declared.actor.Actor.TheVariants.{Exec}
-use Rattle.qpu_machine.specs.declared.journal.Run.{Run}
-use Rattle.qpu_machine.specs.Machine.{MachineState}
 use Rattle.qpu_record.specs.Record.{merged, runs_text, record_text}
 use Rattle.qpu_report.specs.Report.{report_text}
 use Rattle.qpu_tool.specs.Job.{Plan, IsJob}
@@ -21,7 +15,7 @@ use Rattle.qpu_tool.specs.Run.{FaithfulRun, run_text}
 use Rattle.qpu_tool.specs.declared.status.Status.TheVariants.{Done, WriteFault}
 use Rattle.qpu_tool.specs.Statuses.{status_for}
 use Rattle.qpu_tool.specs.Answers.{run_answer, ran, Judged, answered}
-use Rattle.qpu_tool.proofs.ReportLaws.{IsEndedAlone, ended_report_is}
+use Rattle.qpu_tool.proofs.ReportLaws.{ended_report_is}
 use Rattle.qpu_tool.proofs.StraightLemmas.{alone_with, with_is_alone, comes_out_done}
 
 -- steps of one actor make one run

@@ -1,9 +1,9 @@
 -- A program of the first form runs straight through: where its processor stands after each word.
-use Rattle.std.proofs.Common.{◌≡◌, ℕ, zero, suc, ◌+◌, ◌<◌, ◌≤◌, Bool, true, false, List, [], ◌∷◌, length, get_or, replicate, Option, Some, None, Result, Ok, Err, refl, ap, sym, subst, ◌∙◌, arith}
-use Rattle.std.specs.Prelude.{◌==◌, ◌&&◌, ◌||◌, nat_lt, if◌then◌else◌, slice_index}
+use Rattle.std.proofs.Common.{◌≡◌, ℕ, ◌+◌, ◌<◌, ◌≤◌, Bool, true, false, List, length, replicate, Option, Some, None, Result, Ok, Err, refl, ap, sym, subst, ◌∙◌, arith}
+use Rattle.std.specs.Prelude.{◌==◌, nat_lt, if◌then◌else◌, slice_index}
 use Rattle.std.proofs.lemmas.Bool.Decides.{nat_tests}
 use Rattle.qpu_word.specs.declared.state.Rest.{Rest}
-use Rattle.qpu_word.specs.declared.state.Rest.TheVariants.{Straight, Ending, To}
+use Rattle.qpu_word.specs.declared.state.Rest.TheVariants.{Straight, Ending}
 use Rattle.qpu_word.specs.declared.state.Halt.{Halt}
 use Rattle.qpu_word.specs.declared.state.Halt.TheVariants.{Going, Ended}
 use Rattle.qpu_word.specs.declared.word.Fields.{Fields}

@@ -1,5 +1,5 @@
-use Rattle.std.proofs.Common.{Err, List, ℕ, ap, sym, subst, refl}
-use Rattle.qpu_tool.specs.Answers.{usage, read_fault, too_long, given, wrong_words, broken, past, Judged}
+use Rattle.std.proofs.Common.{Err, ap, refl}
+use Rattle.qpu_tool.specs.Answers.{usage, read_fault, too_long, given, wrong_words, broken, past}
 use Rattle.qpu_tool.proofs.AnswerLemmas.{not_both, judged}
 use Rattle.qpu_tool.proofs.command.carried_out.Goals as goal
 

@@ -1,7 +1,7 @@
-use Rattle.std.proofs.Common.{◌≡◌, ◌<◌, ℕ, length, refl, subst, arith}
+use Rattle.std.proofs.Common.{◌≡◌, ℕ, length, refl, subst, arith}
 use Rattle.qpu_tool.specs.Plans.{plan_of}
 use Rattle.qpu_tool.proofs.CodeLemmas.{below_numbers, end_of_numbers}
-use Rattle.qpu_tool.proofs.StraightLemmas.{is_opening, is_ready, one_more_of, faithful, ended, IsAfter}
+use Rattle.qpu_tool.proofs.StraightLemmas.{is_opening, is_ready, one_more_of, faithful, IsAfter}
 use Rattle.qpu_tool.proofs.run.run_through.Goals as goal
 
 pub loop-i-init : goal.loop-i-init

@@ -1,4 +1,4 @@
-use Rattle.std.proofs.Common.{◌≡◌, ℕ, length, refl}
+use Rattle.std.proofs.Common.{refl}
 use Rattle.qpu_tool.specs.Plans.{plan_of}
 use Rattle.qpu_tool.proofs.CodeLemmas.{end_of_numbers}
 use Rattle.qpu_tool.proofs.RunTexts.{judged_run, judged_cut}

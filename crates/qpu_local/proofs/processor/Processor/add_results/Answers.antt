@@ -1,4 +1,4 @@
-use Rattle.std.proofs.Common.{sym, ◌∙◌}
+use Rattle.std.proofs.Common.{sym}
 use Rattle.qpu_local.proofs.UnitLemmas.{add_values_by, add_carries_by}
 use Rattle.qpu_local.proofs.processor.Processor.add_results.Goals as goal
 
