@@ -80,7 +80,7 @@ tries_rest q m final =
     (each (rests (final (Fetch q 0))) (each (rests (final (Fetch q 1))) none))))
 
 -- and a round does nothing
-round_rests : (d q : ℕ) (m : MachineState) → q + d ≡ PROCESSORS → IsFinal m → Round q m [] m
+pub round_rests : (d q : ℕ) (m : MachineState) → q + d ≡ PROCESSORS → IsFinal m → Round q m [] m
 round_rests zero q m count final = over (omega (arith, count))
 round_rests (suc d) q m count final =
     turn (omega (arith, count)) (stops (none_left m q final)) (tries_rest q m final) (round_rests d (q + 1) m (omega (arith, count)) final)

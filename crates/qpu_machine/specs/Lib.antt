@@ -3,3 +3,4 @@ pub mod Schedule
 pub mod Ending
 pub mod Trace
 pub mod Serial
+pub mod OneSerial

@@ -4,9 +4,11 @@
 mod actor;
 mod conclusion;
 mod journal;
+mod laws;
 mod start;
 
 pub use actor::Actor;
 pub use conclusion::Ending;
 pub use journal::Run;
+pub use laws::one_serial_schedule;
 pub use start::Start;
