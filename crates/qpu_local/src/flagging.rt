@@ -9,6 +9,16 @@ use qpu_word::{Fields, Flags, Lanes, with_lane};
 /// A mask of all lanes.
 const ALL: u32 = 0xffff;
 
+/// The branch conditions from which on N is tested, C is tested, none is, and the one that always
+/// holds.
+const BY_N: u32 = 4;
+
+const BY_C: u32 = 8;
+
+const RESERVED: u32 = 12;
+
+const BRANCH_ALWAYS: u32 = 15;
+
 /// The bit of the sign.
 const SIGN: u32 = 0x8000_0000;
 
@@ -85,11 +95,14 @@ fn tests(which: u32, mask: u32) -> bool
 pub fn branches(cond: u32, flags: &Flags) -> bool
     ensures { result ≡ branch_test cond flags.now }
 {
-    match cond {
-        0..=3 => tests(cond, zeros_set(flags)),
-        4..=7 => tests(cond - 4, negatives_set(flags)),
-        8..=11 => tests(cond - 8, carries_set(flags)),
-        _ => cond == 15,
+    if cond < BY_N {
+        tests(cond, zeros_set(flags))
+    } else if cond < BY_C {
+        tests(cond - BY_N, negatives_set(flags))
+    } else if cond < RESERVED {
+        tests(cond - BY_C, carries_set(flags))
+    } else {
+        cond == BRANCH_ALWAYS
     }
 }
 

@@ -15,5 +15,11 @@ pub use rotation::rotate;
 pub use small::{small_code, small_value};
 pub use unpacking::unpack;
 
+/// How many values a half word has.
+const HALF_WORD: u32 = 0x1_0000;
+
+/// How many bits a half word has.
+const HALF_BITS: u32 = 16;
+
 #[cfg(test)]
 mod tests;

@@ -3,6 +3,7 @@ ghost use Rattle.qpu_word.specs.Lanes.{lanes, lane};
 ghost use Rattle.qpu_word.specs.Operations.{byte, of_bytes};
 ghost use Rattle.qpu_word.specs.Writing.{packed, placed, clamped_half, clamped_byte, with_half, with_byte};
 
+use crate::{HALF_BITS, HALF_WORD};
 use qpu_word::{LANES, Lanes, byte_of, number_of};
 
 /// The bit of the sign.
@@ -53,14 +54,14 @@ fn low_byte_repeated(n: u32) -> u32
 fn into_low_half(old: u32, n: u32) -> u32
     ensures { result ≡ with_half 0 old n }
 {
-    ((old >> 16) << 16) + n % 65536
+    ((old >> HALF_BITS) << HALF_BITS) + n % HALF_WORD
 }
 
 /// A low half word in the high half of an old value.
 fn into_high_half(old: u32, n: u32) -> u32
     ensures { result ≡ with_half 1 old n }
 {
-    ((n % 65536) << 16) + old % 65536
+    ((n % HALF_WORD) << HALF_BITS) + old % HALF_WORD
 }
 
 /// One byte, or another in its place.

@@ -3,6 +3,7 @@ ghost use Rattle.qpu_word.specs.Lanes.{lanes, lane};
 ghost use Rattle.qpu_word.specs.Operations.{byte, of_bytes};
 ghost use Rattle.qpu_word.specs.Operands.{unpacked, sign_extended};
 
+use crate::{HALF_BITS, HALF_WORD};
 use qpu_word::{LANES, Lanes, byte_of, number_of};
 
 /// The bit of a half word's sign.
@@ -13,7 +14,7 @@ const SIGN_OVER_32: u32 = 0xffff_0000;
 
 /// A half word with its sign over 32 bits.
 fn extended(half: u32) -> u32
-    requires { half < 65536 }
+    requires { half < HALF_WORD }
     ensures { result ≡ sign_extended half }
 {
     if half < HALF_SIGN {
@@ -39,8 +40,8 @@ fn unpack_one(mode: u32, n: u32) -> u32
 {
     match mode {
         0 => n,
-        1 => extended(n % 65536),
-        2 => extended(n >> 16),
+        1 => extended(n % HALF_WORD),
+        2 => extended(n >> HALF_BITS),
         3 => high_byte_repeated(n),
         _ => byte_of(n, mode - 4),
     }

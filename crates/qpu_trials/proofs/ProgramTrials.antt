@@ -165,9 +165,9 @@ mutex = refl
 
 -- a branch to itself, up to a limit
 abbrev endless_program : MachineState
-endless_program = (machine_of (replicate 16 0) 10 ((0xf0f809e7ffffffe0 ∷ 0x100009e7009e7000 ∷ 0x100009e7009e7000 ∷ 0x100009e7009e7000 ∷ []) ∷ []) (record { q = 0; program = 0; uniforms = 0 } ∷ []))
+endless_program = (machine_of (replicate 16 0) 1000 ((0xf0f809e7ffffffe0 ∷ 0x100009e7009e7000 ∷ 0x100009e7009e7000 ∷ 0x100009e7009e7000 ∷ []) ∷ []) (record { q = 0; program = 0; uniforms = 0 } ∷ []))
 
-endless : option_map seen (along (Exec 0 ∷ Exec 0 ∷ Exec 0 ∷ Exec 0 ∷ Exec 0 ∷ Exec 0 ∷ Exec 0 ∷ Exec 0 ∷ Exec 0 ∷ Exec 0 ∷ []) endless_program) ≡ Some ((Some (((replicate 16 0x0) ∷ (replicate 16 0x0) ∷ (replicate 16 0x0) ∷ (replicate 16 0x0) ∷ []), ((replicate 16 0x0) ∷ (replicate 16 0x0) ∷ []), record { zn = None; c = None }, Going, 10)) ∷ (None) ∷ [], RanOut, None, [], [], [])
+endless : option_map seen (along (replicate 1000 (Exec 0)) endless_program) ≡ Some ((Some (((replicate 16 0x0) ∷ (replicate 16 0x0) ∷ (replicate 16 0x0) ∷ (replicate 16 0x0) ∷ []), ((replicate 16 0x0) ∷ (replicate 16 0x0) ∷ []), record { zn = None; c = None }, Going, 1000)) ∷ (None) ∷ [], RanOut, None, [], [], [])
 unfolding lanes mask_below is_shared add_result mul_result add_op mul_op read_a read_b operand unpacked small_value lane_test branch_test rotation rotated packed left replicated written stored read_setup write_setup put_read put_write take_vector put_vector add_values mul_values loaded plain_values add_sent mul_sent add_stored mul_stored put_add put_mul put_loaded zn_of add_carries unit_flags load_flags flags_after target_of branch_fails rest_after place_after halt_after sent_to sent_to_a sent_to_b look_address outs_from after_setups registers_after moved_on done halted is_link_point vector_cells load_plan store_plan transfer_pairs fits opening_shared opening_processor awaits first_cause ins_of after_reads after_writes mutex_after semaphores_after shared_after instruction_result instruction machine_of vpm_loaded memory_stored after_step ending_of lib.Count.count_leading_zeros
 endless = refl
 
