@@ -20,6 +20,7 @@ use Rattle.qpu_word.specs.Words.{fields_of, reads, reads_a, reads_b, writes, wri
 use Rattle.qpu_word.specs.Setups.{take_vector, put_vector}
 use Rattle.qpu_word.specs.Processor.{ProcessorState}
 use Rattle.qpu_word.specs.Instruction.{outs_of, after_setups, after_uniform_to, then_after, branch_fails, done, is_link_point}
+use Rattle.qpu_sync.specs.Sync.{is_holder}
 use Rattle.qpu_vpm.specs.Cells.{vector_cells}
 use Rattle.qpu_dma.specs.Transfers.{Transfer, Plan, load_plan, store_plan, fits}
 use Rattle.qpu_shared.specs.declared.cause.Cause.{Cause}
@@ -196,11 +197,6 @@ abbrev pub vpm_after : Option Lanes → Option Vectors → List ℕ → List ℕ
 vpm_after None writes vpm = vpm
 vpm_after (Some values) None vpm = vpm
 vpm_after (Some values) (Some w) vpm = with_cells vpm (vector_cells w.setup w.done) values.v
-
--- whether a processor holds the mutex
-abbrev pub is_holder : Option ℕ → ℕ → Bool
-is_holder None q = false
-is_holder (Some holder) q = holder == q
 
 -- the mutex after an acquire, where there is one
 abbrev pub acquired : Fields → ℕ → Option ℕ → Option ℕ

@@ -1,0 +1,9 @@
+//! The memory of a job: a list of words of 32 bits, from word 0 on.
+#![tactic(auto)]
+
+mod memory;
+
+pub use memory::Memory;
+
+#[cfg(test)]
+mod tests;

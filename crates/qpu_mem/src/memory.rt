@@ -1,0 +1,72 @@
+ghost use Rattle.std.specs.Prelude.{◌≡◌, ◌<◌, ◌≤◌, ◌↔◌, length, replicate, slice_get, slice_set, IfOk, IsTrue, if◌then◌else◌, nat_lt};
+
+use qpu_word::NoMemory;
+use std::alloc::Global;
+use std::marker::Model;
+
+/// Words of memory, seen as a list. It has 1 to 1,048,576 words.
+#[derive(Debug, Drop)]
+pub struct Memory {
+    words: Vec<u32>,
+}
+
+impl Model for Memory {
+    ghost use Rattle.std.specs.Prelude.{List, ℕ, vec_len, ◌≤◌};
+
+    ghost Value = { List ℕ };
+
+    ghost view = { λ memory. memory.words.items };
+
+    ghost invariant = { λ memory. vec_len memory.words ≤ 1048576 };
+}
+
+impl Memory {
+    /// So many words, 1 to 1,048,576, all 0. The one error is want of memory.
+    pub fn new(alloc: Global, words: u32) -> Result<Memory, NoMemory>
+        requires some { 1 ≤ words }
+        requires most { words ≤ 1048576 }
+        ensures { IfOk result (λ memory. memory ≡ replicate words 0) }
+    {
+        match vec![in alloc; 0u32; words as usize] {
+            Ok(words) => Ok(Memory { words }),
+            Err(_) => Err(NoMemory),
+        }
+    }
+
+    /// How many words there are.
+    pub fn len(&self) -> u32
+        ensures { result ≡ length self.now }
+    {
+        self.words.len() as u32
+    }
+
+    /// The word at an index; none exactly where the index isn't below the length.
+    pub fn word(&self, at: u32) -> Option<u32>
+        ensures { result ≡ slice_get self.now at }
+    {
+        self.words.get(at as usize).copied()
+    }
+
+    /// Sets the word at an index. False exactly where the index isn't below the length; then
+    /// nothing changes.
+    pub fn set(&mut self, at: u32, value: u32) -> bool
+        ensures there { IsTrue result ↔ (at < length self.old) }
+        ensures words { self.new ≡ (if nat_lt at (length self.old) then slice_set self.old at value else self.old) }
+    {
+        if self.words.len() <= at as usize {
+            return false;
+        }
+        self.words[at as usize] = value;
+        true
+    }
+
+    /// An equal memory. The one error is want of memory.
+    pub fn copy(&self, alloc: Global) -> Result<Memory, NoMemory>
+        ensures { IfOk result (λ memory. memory ≡ self.now) }
+    {
+        match Vec::from_slice(alloc, &self.words) {
+            Ok(words) => Ok(Memory { words }),
+            Err(_) => Err(NoMemory),
+        }
+    }
+}
