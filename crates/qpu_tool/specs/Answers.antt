@@ -23,16 +23,19 @@ pub record Answer : Type 0 where
   pub status : Status
   pub text : List ℕ
 
--- the answers of a line
+-- the answer to words that are no command
 abbrev pub usage : Answer
 usage = record { status = Usage; text = codes "usage\n" }
 
+-- the answer where reading failed
 abbrev pub read_fault : Answer
 read_fault = record { status = ReadFault; text = codes "read fault\n" }
 
+-- the answer to an input past the limit
 abbrev pub too_long : Answer
 too_long = record { status = TooLong; text = codes "too long\n" }
 
+-- the answer to an input that is no job of the first form
 abbrev pub not_built : Answer
 not_built = record { status = JobRefused; text = codes "refused job NotBuilt\n" }
 
