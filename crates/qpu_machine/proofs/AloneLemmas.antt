@@ -1,17 +1,17 @@
 -- A machine in which processor 0 is the only one, at the shared parts before any step.
 use Rattle.std.proofs.Common.{◌≡◌, ℕ, zero, suc, ◌+◌, Bool, true, false, List, [], ◌∷◌, replicate, Option, Some, None, Ok, refl, sym, subst, arith}
-use Rattle.std.specs.Prelude.{◌==◌, if◌then◌else◌, slice_index, slice_index_or}
+use Rattle.std.specs.Prelude.{◌==◌, nat_lt, if◌then◌else◌, slice_index, slice_index_or}
 use Rattle.qpu_word.specs.declared.code.TheConstants.{PROCESSORS}
 use Rattle.qpu_word.specs.declared.state.Halt.TheVariants.{Ended}
 use Rattle.qpu_word.specs.Words.{fields_of, is_local}
 use Rattle.qpu_word.specs.Processor.{ProcessorState, opening_processor}
 use Rattle.qpu_word.specs.Instruction.{local_result, is_link_point}
 use Rattle.qpu_shared.specs.SharedState.{LookUp, nothing_pending, opening_shared}
-use Rattle.qpu_shared.specs.Instruction.{is_running, instruction, pending_of, looks_of}
+use Rattle.qpu_shared.specs.Instruction.{is_running, instruction, pending_of}
 use Rattle.qpu_machine.specs.declared.actor.Actor.TheVariants.{Exec, Load, Store, Fetch}
 use Rattle.qpu_machine.specs.declared.conclusion.Ending.TheVariants.{Done}
 use Rattle.qpu_machine.specs.declared.start.Start.{Start}
-use Rattle.qpu_machine.specs.Machine.{MachineState, machine_of, after_step}
+use Rattle.qpu_machine.specs.Machine.{MachineState, machine_of, tmu_units, unit_looks, after_step}
 use Rattle.qpu_machine.specs.Ending.{IsFinal, ending_of}
 use Rattle.qpu_machine.proofs.RunLemmas.{Ran, one_more, IsAtLocal, local_step, local_enabled}
 
@@ -51,8 +51,8 @@ same_either true = refl
 same_either false = refl
 
 -- no unit has a look-up
-no_looks : (unit : ℕ) → looks_of nothing_pending unit ≡ []
-no_looks unit = same_either (unit == 0)
+no_looks : (unit : ℕ) → unit_looks nothing_pending unit ≡ []
+no_looks unit = rw (same_either (unit == 0)) (same_either (nat_lt unit tmu_units))
 
 -- where processor 0 has ended, nothing can move
 pub final_alone : (memory : List ℕ) (limit : ℕ) (code : List ℕ) (p : ProcessorState) → p.halt ≡ Ended → IsFinal (alone memory limit code p)

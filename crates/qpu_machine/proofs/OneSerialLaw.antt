@@ -1,11 +1,10 @@
 -- The serial order leaves no choice.
-use Rattle.std.proofs.Common.{◌≡◌, ℕ, ◌+◌, ◌<◌, Bool, true, false, List, [], ◌∷◌, ◌++◌, Option, Some, None, refl, ap, sym, ◌∙◌, subst, arith}
-use Rattle.qpu_word.specs.declared.code.TheConstants.{PROCESSORS}
+use Rattle.std.proofs.Common.{◌≡◌, ℕ, Bool, true, false, List, [], ◌∷◌, ◌++◌, Option, Some, None, refl, ap, sym, ◌∙◌, subst, arith}
 use Rattle.qpu_machine.specs.declared.actor.Actor.{Actor}
-use Rattle.qpu_machine.specs.declared.actor.Actor.TheVariants.{Exec, Load, Store, Fetch}
-use Rattle.qpu_machine.specs.Machine.{MachineState, after_step, Step}
+use Rattle.qpu_machine.specs.declared.actor.Actor.TheVariants.{Exec}
+use Rattle.qpu_machine.specs.Machine.{MachineState, after_step}
 use Rattle.qpu_machine.specs.Ending.{IsFinal}
-use Rattle.qpu_machine.specs.Serial.{has_local_step, Stretch, stops, goes, Tried, rests, moves, InTurn, none, each, tries_of, Round, over, turn, SerialSchedule, ends, goes_on}
+use Rattle.qpu_machine.specs.Serial.{has_local_step, Stretch, stops, goes, Tried, rests, moves, InTurn, none, each, Round, over, turn, SerialSchedule, ends, goes_on}
 use Rattle.qpu_machine.specs.OneSerial.{HasOneSerialSchedule}
 use Rattle.qpu_machine.proofs.RunLemmas.{round_rests}
 

@@ -1,6 +1,6 @@
 -- The machine, and one actor's step. That DMA moves and look-up moves are steps of their own is
 -- this project's own.
-use Rattle.std.specs.Prelude.{◌≡◌, ℕ, Bool, List, [], ◌∷◌, map, replicate, fold, Option, Some, None, is_some, slice_index, slice_index_or, slice_set}
+use Rattle.std.specs.Prelude.{◌≡◌, ℕ, Bool, List, [], ◌∷◌, map, replicate, fold, Option, Some, None, is_some, slice_index, slice_index_or, slice_set, nat_lt, if◌then◌else◌}
 use Rattle.qpu_word.specs.declared.code.TheConstants.{PROCESSORS}
 use Rattle.qpu_word.specs.Processor.{ProcessorState, opening_processor}
 use Rattle.qpu_vpm.specs.Cells.{cell}
@@ -111,6 +111,14 @@ fetched memory (look ∷ more) = fetched_first look.words memory look more (fetc
     fetched_first (Some words) memory look more None = None
     fetched_first (Some words) memory look more (Some later) = Some (look ∷ later)
 
+-- the TMU units of a processor
+abbrev pub tmu_units : ℕ
+tmu_units = 2
+
+-- the look-ups of one of them, the oldest first; another number has none
+abbrev pub unit_looks : Pending → ℕ → List LookUp
+unit_looks pending unit = if nat_lt unit tmu_units then looks_of pending unit else []
+
 -- the shared parts after a look-up move of a TMU unit, where it has one to make
 abbrev pub after_fetch : SharedState → ℕ → ℕ → Option (List LookUp) → Option SharedState
 after_fetch h q unit None = None
@@ -127,7 +135,7 @@ after_step m (Exec q) = after_exec m q (processor_of m q)
 after_step m (Load q) = with_shared m (after_load m.shared q (pending_of m.shared q).load)
 after_step m (Store q) = with_shared m (after_store m.shared q (pending_of m.shared q).store)
 after_step m (Fetch q unit) =
-    with_shared m (after_fetch m.shared q unit (fetched m.shared.memory (looks_of (pending_of m.shared q) unit)))
+    with_shared m (after_fetch m.shared q unit (fetched m.shared.memory (unit_looks (pending_of m.shared q) unit)))
 
 -- a machine becomes another by one step of an actor
 abbrev pub Step : MachineState → Actor → MachineState → Type 0

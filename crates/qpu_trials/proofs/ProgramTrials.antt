@@ -187,6 +187,11 @@ look_up : option_map seen (along (Exec 0 ∷ Fetch 0 0 ∷ Exec 0 ∷ Exec 0 ∷
 unfolding lanes mask_below is_shared add_result mul_result add_op mul_op read_a read_b operand unpacked small_value lane_test branch_test rotation rotated packed left replicated written stored read_setup write_setup put_read put_write take_vector put_vector add_values mul_values loaded plain_values add_sent mul_sent add_stored mul_stored put_add put_mul put_loaded zn_of add_carries unit_flags load_flags flags_after target_of branch_fails rest_after place_after halt_after sent_to sent_to_a sent_to_b look_address outs_from after_setups registers_after moved_on done halted is_link_point vector_cells load_plan store_plan transfer_pairs fits opening_shared opening_processor awaits first_cause ins_of after_reads after_writes mutex_after semaphores_after shared_after instruction_result instruction machine_of vpm_loaded memory_stored after_step ending_of lib.Count.count_leading_zeros
 look_up = refl
 
+-- there is no third unit to move a look-up of
+no_third_unit : option_map seen (along (Exec 0 ∷ Fetch 0 2 ∷ []) look_up_program) ≡ None
+unfolding lanes mask_below is_shared add_result mul_result add_op mul_op read_a read_b operand unpacked small_value lane_test branch_test rotation rotated packed left replicated written stored read_setup write_setup put_read put_write take_vector put_vector add_values mul_values loaded plain_values add_sent mul_sent add_stored mul_stored put_add put_mul put_loaded zn_of add_carries unit_flags load_flags flags_after target_of branch_fails rest_after place_after halt_after sent_to sent_to_a sent_to_b look_address outs_from after_setups registers_after moved_on done halted is_link_point vector_cells load_plan store_plan transfer_pairs fits opening_shared opening_processor awaits first_cause ins_of after_reads after_writes mutex_after semaphores_after shared_after instruction_result instruction machine_of vpm_loaded memory_stored after_step ending_of lib.Count.count_leading_zeros
+no_third_unit = refl
+
 -- writes where Z is set, and a branch that is taken
 abbrev conditions_program : MachineState
 conditions_program = (machine_of (replicate 16 0) 100 ((0xd00229e70d983dc0 ∷ 0x100009e7009e7000 ∷ 0xe004082700000001 ∷ 0xe008086700000002 ∷ 0xf02809e700000000 ∷ 0x100009e7009e7000 ∷ 0x100009e7009e7000 ∷ 0x100009e7009e7000 ∷ 0xe00208a700000007 ∷ 0x300009e7009e7000 ∷ 0x100009e7009e7000 ∷ 0x100009e7009e7000 ∷ []) ∷ []) (record { q = 0; program = 0; uniforms = 0 } ∷ []))
