@@ -187,8 +187,16 @@ look_up : option_map seen (along (Exec 0 ∷ Fetch 0 0 ∷ Exec 0 ∷ Exec 0 ∷
 unfolding lanes mask_below is_shared add_result mul_result add_op mul_op read_a read_b operand unpacked small_value lane_test branch_test rotation rotated packed left replicated written stored read_setup write_setup put_read put_write take_vector put_vector add_values mul_values loaded plain_values add_sent mul_sent add_stored mul_stored put_add put_mul put_loaded zn_of add_carries unit_flags load_flags flags_after target_of branch_fails rest_after place_after halt_after sent_to sent_to_a sent_to_b look_address outs_from after_setups registers_after moved_on done halted is_link_point vector_cells load_plan store_plan transfer_pairs fits opening_shared opening_processor awaits first_cause ins_of after_reads after_writes mutex_after semaphores_after shared_after instruction_result instruction machine_of vpm_loaded memory_stored after_step ending_of lib.Count.count_leading_zeros
 look_up = refl
 
--- there is no third unit to move a look-up of
-no_third_unit : option_map seen (along (Exec 0 ∷ Fetch 0 2 ∷ []) look_up_program) ≡ None
+-- the look-up in the second unit
+abbrev second_unit_program : MachineState
+second_unit_program = (machine_of (7 ∷ 0 ∷ 0 ∷ 0 ∷ 0 ∷ 0 ∷ 0 ∷ 0 ∷ 0 ∷ 0 ∷ 0 ∷ 0 ∷ 0 ∷ 0 ∷ 0 ∷ 0 ∷ []) 100 ((0x10020f27159e7000 ∷ 0xb00009e7009e7000 ∷ 0x10020867159e7900 ∷ 0x300009e7009e7000 ∷ 0x100009e7009e7000 ∷ 0x100009e7009e7000 ∷ []) ∷ []) (record { q = 0; program = 0; uniforms = 0 } ∷ []))
+
+-- the same through the second unit, and there is no third
+second_unit : option_map seen (along (Exec 0 ∷ Fetch 0 1 ∷ Exec 0 ∷ Exec 0 ∷ Exec 0 ∷ Exec 0 ∷ Exec 0 ∷ []) second_unit_program) ≡ Some ((Some (((replicate 16 0x0) ∷ (replicate 16 0x7) ∷ (replicate 16 0x0) ∷ (replicate 16 0x0) ∷ []), ((replicate 16 0x0) ∷ (replicate 16 0x0) ∷ []), record { zn = None; c = None }, Ended, 6)) ∷ (None) ∷ [], Done, None, [], [], (0, 0x7) ∷ [])
+unfolding lanes mask_below is_shared add_result mul_result add_op mul_op read_a read_b operand unpacked small_value lane_test branch_test rotation rotated packed left replicated written stored read_setup write_setup put_read put_write take_vector put_vector add_values mul_values loaded plain_values add_sent mul_sent add_stored mul_stored put_add put_mul put_loaded zn_of add_carries unit_flags load_flags flags_after target_of branch_fails rest_after place_after halt_after sent_to sent_to_a sent_to_b look_address outs_from after_setups registers_after moved_on done halted is_link_point vector_cells load_plan store_plan transfer_pairs fits opening_shared opening_processor awaits first_cause ins_of after_reads after_writes mutex_after semaphores_after shared_after instruction_result instruction machine_of vpm_loaded memory_stored after_step ending_of lib.Count.count_leading_zeros
+second_unit = refl
+
+no_third_unit : option_map seen (along (Exec 0 ∷ Fetch 0 2 ∷ []) second_unit_program) ≡ None
 unfolding lanes mask_below is_shared add_result mul_result add_op mul_op read_a read_b operand unpacked small_value lane_test branch_test rotation rotated packed left replicated written stored read_setup write_setup put_read put_write take_vector put_vector add_values mul_values loaded plain_values add_sent mul_sent add_stored mul_stored put_add put_mul put_loaded zn_of add_carries unit_flags load_flags flags_after target_of branch_fails rest_after place_after halt_after sent_to sent_to_a sent_to_b look_address outs_from after_setups registers_after moved_on done halted is_link_point vector_cells load_plan store_plan transfer_pairs fits opening_shared opening_processor awaits first_cause ins_of after_reads after_writes mutex_after semaphores_after shared_after instruction_result instruction machine_of vpm_loaded memory_stored after_step ending_of lib.Count.count_leading_zeros
 no_third_unit = refl
 
