@@ -6,7 +6,8 @@ use Rattle.qpu_word.specs.declared.state.Halt.TheVariants.{Ended}
 use Rattle.qpu_word.specs.Words.{fields_of, is_local}
 use Rattle.qpu_word.specs.Processor.{ProcessorState, opening_processor}
 use Rattle.qpu_word.specs.Instruction.{local_result, is_link_point}
-use Rattle.qpu_shared.specs.SharedState.{LookUp, nothing_pending, opening_shared}
+use Rattle.qpu_tmu.specs.declared.look_up.LookUp.{LookUp}
+use Rattle.qpu_shared.specs.SharedState.{nothing_pending, opening_shared}
 use Rattle.qpu_shared.specs.Instruction.{is_running, instruction, pending_of}
 use Rattle.qpu_machine.specs.declared.actor.Actor.TheVariants.{Exec, Load, Store, Fetch}
 use Rattle.qpu_machine.specs.declared.conclusion.Ending.TheVariants.{Done}

@@ -6,7 +6,8 @@ use Rattle.qpu_word.specs.Processor.{ProcessorState, opening_processor}
 use Rattle.qpu_vpm.specs.Cells.{cell}
 use Rattle.qpu_dma.specs.declared.Pair.{Pair}
 use Rattle.qpu_dma.specs.Transfers.{Transfer, load_plan, store_plan, transfer_pairs}
-use Rattle.qpu_shared.specs.SharedState.{SharedState, Pending, LookUp, opening_shared}
+use Rattle.qpu_tmu.specs.declared.look_up.LookUp.{LookUp}
+use Rattle.qpu_shared.specs.SharedState.{SharedState, Pending, opening_shared}
 use Rattle.qpu_shared.specs.Instruction.{Outcome, NoStep, Awaits, Faults, Done, instruction, pending_of, looks_of, with_looks}
 use Rattle.qpu_word.specs.Instruction.{halted}
 use Rattle.qpu_machine.specs.declared.actor.Actor.{Actor}

@@ -23,9 +23,11 @@ use Rattle.qpu_word.specs.Instruction.{outs_of, after_setups, after_uniform_to, 
 use Rattle.qpu_sync.specs.Sync.{is_holder}
 use Rattle.qpu_vpm.specs.Cells.{vector_cells}
 use Rattle.qpu_dma.specs.Transfers.{Transfer, Plan, load_plan, store_plan, fits}
+use Rattle.qpu_tmu.specs.declared.look_up.LookUp.{LookUp}
+use Rattle.qpu_tmu.specs.Looks.{oldest_words}
 use Rattle.qpu_shared.specs.declared.cause.Cause.{Cause}
 use Rattle.qpu_shared.specs.declared.cause.Cause.TheVariants.{LoadWait, StoreWait, LoadStart, StoreStart, TmuLoad, Mutex, Up, Down}
-use Rattle.qpu_shared.specs.SharedState.{SharedState, Pending, LookUp, nothing_pending}
+use Rattle.qpu_shared.specs.SharedState.{SharedState, Pending, nothing_pending}
 
 -- what one step of a processor comes to
 pub data Outcome : Type 0 where
@@ -48,11 +50,6 @@ looks_of pending unit = if unit == 0 then pending.looks0 else pending.looks1
 abbrev pub with_looks : Pending → ℕ → List LookUp → Pending
 with_looks pending unit looks =
     if unit == 0 then record pending { looks0 = looks } else record pending { looks1 = looks }
-
--- the words of the oldest look-up, none where there is none or it isn't fetched
-abbrev pub oldest_words : List LookUp → Option (List ℕ)
-oldest_words [] = None
-oldest_words (look ∷ more) = look.words
 
 -- a count of a semaphore
 abbrev pub count_of : SharedState → ℕ → ℕ

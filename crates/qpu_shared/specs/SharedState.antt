@@ -1,12 +1,8 @@
 -- What the processors share, as numbers and lists. This project's own.
 use Rattle.std.specs.Prelude.{ℕ, ◌*◌, List, [], Option, None, replicate}
 use Rattle.qpu_dma.specs.Transfers.{Transfer}
+use Rattle.qpu_tmu.specs.declared.look_up.LookUp.{LookUp}
 use Rattle.qpu_word.specs.declared.code.TheConstants.{VPM_ROWS, VPM_COLUMNS, PROCESSORS, SEMAPHORES}
-
--- a look-up: the indexes of its sixteen words in memory, and the words once they are fetched
-pub record LookUp : Type 0 where
-  pub at : List ℕ
-  pub words : Option (List ℕ)
 
 -- what a processor has pending: a load, a store, and the look-ups of both TMU units, the oldest first
 pub record Pending : Type 0 where
