@@ -4,3 +4,4 @@ pub mod ProfileLemmas
 pub mod StepLemmas
 pub mod AloneLemmas
 pub mod NeedLemmas
+pub mod BookLemmas

@@ -9,4 +9,5 @@ pub mod Fit
 pub mod Setups
 pub mod Form
 pub mod Needs
+pub mod Books
 pub mod Instruction

@@ -6,14 +6,17 @@
 #![tactic(auto)]
 
 mod activity;
+mod book;
 mod byte;
 pub mod code;
 mod fault;
 mod form;
 mod lanes;
+mod laws;
 mod memory;
 mod needs;
 mod operation;
+mod port;
 mod program;
 mod reading;
 mod setup;
@@ -25,9 +28,11 @@ pub use byte::{byte_of, number_of};
 pub use fault::{FaultKind, SetupFault, WordFault};
 pub use form::Form;
 pub use lanes::{LANES, Lanes, with_lane};
+pub use laws::books_stay_sound;
 pub use memory::NoMemory;
 pub use needs::Needs;
 pub use operation::{AddOp, MulOp};
+pub use port::Port;
 pub use program::Program;
 pub use setup::{Book, ReadSetup, Vectors, WriteSetup, read_setup, write_setup};
 pub use state::{Flags, Halt, Rest};

@@ -1,8 +1,9 @@
+//! The values of the setup registers, and what a processor keeps of them.
 ghost use Rattle.std.specs.Prelude.{◌≡◌, ◌<◌, ◌≤◌, Result};
 ghost use Rattle.qpu_word.specs.Words.{field};
-ghost use Rattle.qpu_word.specs.Setups.{read_setup, write_setup, put_read, put_write, queued, fresh, Puts};
+ghost use Rattle.qpu_word.specs.Setups.{read_setup, write_setup, counted, vector_count};
 
-use crate::fault::{FaultKind, SetupFault};
+use crate::fault::SetupFault;
 
 /// A setup of VPM vectors, and how many vectors of it were used.
 #[derive(Clone, Copy, Debug, PartialEq, Eq)]
@@ -63,7 +64,7 @@ const SIZE_OF_WORDS: u32 = 2;
 const PITCH: u32 = 9;
 
 /// Bits `low` to `low + count - 1` of a setup.
-fn bits(value: u32, low: u32, count: u32) -> u32
+pub(crate) fn bits(value: u32, low: u32, count: u32) -> u32
     requires low { low < 32 }
     requires count { count < 32 }
     ensures { result ≡ field value low count }
@@ -121,73 +122,16 @@ pub fn write_setup(value: u32) -> Result<WriteSetup, SetupFault>
     }
 }
 
-/// A setup of vectors before its first access.
-fn fresh(setup: u32) -> Vectors
-    ensures { result ≡ fresh setup }
+/// The vectors of a read setup whose number is written as 0.
+const MOST_VECTORS: u32 = 16;
+
+/// How many vectors a VPM read setup gives, 1 to 16.
+pub(crate) fn vector_count(setup: u32) -> u32
+    ensures count { result ≡ vector_count setup }
+    ensures below { result ≤ 16 }
 {
-    Vectors { setup, done: 0 }
-}
-
-impl Book {
-    /// Queues a VPM read setup behind the one in use; `SetupsFull` where two are unfinished, and
-    /// then nothing changes.
-    fn queue(&mut self, setup: u32) -> Result<(), FaultKind>
-        ensures { Puts result (queued self.old.first self.old.second self.old setup) self.old self.new }
-    {
-        match (self.first, self.second) {
-            (None, _) => {
-                self.first = Some(fresh(setup));
-                Ok(())
-            }
-            (Some(_), None) => {
-                self.second = Some(fresh(setup));
-                Ok(())
-            }
-            (Some(_), Some(_)) => Err(FaultKind::SetupsFull),
-        }
-    }
-
-    /// Takes a value written to the read setup register. `Setup` exactly where the value is
-    /// refused, `SetupsFull` exactly where it is a VPM setup and two are unfinished; a refusal
-    /// changes nothing.
-    #[tactic(auto, unfolding(crate::specs::Setups::put_read))]
-    pub fn put_read(&mut self, value: u32) -> Result<(), FaultKind>
-        ensures { Puts result (put_read self.old value) self.old self.new }
-    {
-        match read_setup(value) {
-            Ok(ReadSetup::Vectors) => self.queue(value),
-            Ok(ReadSetup::Load) => {
-                self.load = Some(value);
-                Ok(())
-            }
-            Ok(ReadSetup::Pitch) => {
-                self.load_pitch = bits(value, 0, 13);
-                Ok(())
-            }
-            Err(fault) => Err(FaultKind::Setup(fault)),
-        }
-    }
-
-    /// Takes a value written to the write setup register. `Setup` exactly where the value is
-    /// refused; a refusal changes nothing.
-    #[tactic(auto, unfolding(crate::specs::Setups::put_write))]
-    pub fn put_write(&mut self, value: u32) -> Result<(), FaultKind>
-        ensures { Puts result (put_write self.old value) self.old self.new }
-    {
-        match write_setup(value) {
-            Ok(WriteSetup::Vectors) => {
-                self.writes = Some(fresh(value));
-                Ok(())
-            }
-            Ok(WriteSetup::Store) => {
-                self.store = Some(value);
-                Ok(())
-            }
-            Ok(WriteSetup::Stride) => {
-                self.store_stride = bits(value, 0, 13);
-                Ok(())
-            }
-            Err(fault) => Err(FaultKind::Setup(fault)),
-        }
+    match bits(setup, 20, 4) {
+        0 => MOST_VECTORS,
+        count => count,
     }
 }
