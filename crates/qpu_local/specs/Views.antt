@@ -3,6 +3,7 @@ use Rattle.std.specs.Prelude.{ℕ, ◌+◌, ◌^◌, ◌<◌, ◌≤◌}
 use Rattle.qpu_word.specs.declared.state.Rest.{Rest}
 use Rattle.qpu_word.specs.declared.state.Rest.TheVariants.{Straight, Ending, To}
 use Rattle.qpu_word.specs.Processor.{ProcessorState}
+use Rattle.qpu_word.specs.Books.{IsSoundBook}
 use Rattle.qpu_local.specs.declared.processor.Processor.TheInside.{Inside}
 
 -- the state of a processor's fields
@@ -44,8 +45,9 @@ coming_place (Ending n) = 0
 coming_place (To n t) = t
 
 -- each interrupt was raised by an instruction of its own; a place is a branch's target, below
--- 2^29 words, or a few words behind one
+-- 2^29 words, or a few words behind one; the setups are valid ones
 pub record IsSound (inside : Inside) : Type 0 where
   pub counted : inside.interrupts ≤ inside.executed
   pub place : inside.place ≤ 2 ^ 29 + inside.executed
   pub coming : coming_place inside.rest < 2 ^ 29
+  pub book : IsSoundBook inside.book

@@ -101,7 +101,7 @@ impl Processor {
 
     /// Whether the word is a taken register branch whose target is no link point.
     #[tactic(auto, unfolding(qpu_word::specs::Instruction::branch_fails))]
-    pub fn branch_fails<G: Program>(&self, f: &Fields, program: &G) -> bool
+    pub(crate) fn branch_fails<G: Program>(&self, f: &Fields, program: &G) -> bool
         requires fit { IsFit f.now }
         requires place { self.now.place < 4096 }
         ensures { result ≡ branch_fails (G.is_link program.now) f.now self.now }
@@ -171,7 +171,7 @@ impl Processor {
     }
 
     /// Where control stands after a word.
-    pub fn next(&self, f: &Fields) -> Next
+    pub(crate) fn next(&self, f: &Fields) -> Next
         requires fit { IsFit f.now }
         requires executed { self.now.executed < 1000000 }
         requires place { IsTrue (is_branch f.now) → self.now.place < 4096 }

@@ -1,13 +1,13 @@
-//! What an instruction sends to the shared parts, the setups and the uniforms address.
+//! What an instruction sends out.
 ghost use Rattle.std.specs.Prelude.{◌≡◌, ℕ};
-ghost use Rattle.qpu_word.specs.Instruction.{is_look_address, sent_to, sent_to_a, sent_to_b, first_lane, as_lanes, look_address, outs_from, after_read_setup, after_write_setup, after_setups, after_uniform_to};
+ghost use Rattle.qpu_word.specs.Instruction.{is_look_address, sent_to, sent_to_a, sent_to_b, first_lane, as_lanes, look_address, outs_from};
 
 use crate::sending::Sent;
 use qpu_word::code::{
     NOWHERE, WRITE_DMA_ADDRESS, WRITE_TMU0_S, WRITE_TMU1_S, WRITE_UNIFORMS_ADDRESS, WRITE_VPM,
     WRITE_VPM_SETUP,
 };
-use qpu_word::{Book, FaultKind, Fields, Lanes, Outs};
+use qpu_word::{Fields, Lanes, Outs};
 
 /// The value sent to an address of either file.
 #[tactic(auto, unfolding(qpu_word::specs::Instruction::sent_to))]
@@ -100,54 +100,5 @@ pub fn outs(f: &Fields, sent: &Sent) -> Outs
         store_at: first_to_b(f, sent, WRITE_DMA_ADDRESS),
         look_unit: if look_to(f) == WRITE_TMU1_S { 1 } else { 0 },
         look: value_to(f, sent, look_to(f)),
-    }
-}
-
-/// The book after a value for the read setup register, where there is one.
-fn with_read_setup(value: Option<u32>, book: Book) -> Result<Book, FaultKind>
-    ensures { result ≡ after_read_setup value book }
-{
-    let mut book = book;
-    match value {
-        None => Ok(book),
-        Some(value) => match book.put_read(value) {
-            Ok(()) => Ok(book),
-            Err(kind) => Err(kind),
-        },
-    }
-}
-
-/// The book after a value for the write setup register, where there is one.
-fn with_write_setup(value: Option<u32>, book: Book) -> Result<Book, FaultKind>
-    ensures { result ≡ after_write_setup value book }
-{
-    let mut book = book;
-    match value {
-        None => Ok(book),
-        Some(value) => match book.put_write(value) {
-            Ok(()) => Ok(book),
-            Err(kind) => Err(kind),
-        },
-    }
-}
-
-/// The book after both setup registers, in their order.
-#[tactic(auto, unfolding(qpu_word::specs::Instruction::after_setups))]
-pub fn with_setups(outs: &Outs, book: Book) -> Result<Book, FaultKind>
-    ensures { result ≡ after_setups outs.now book }
-{
-    match with_read_setup(outs.to_read_setup, book) {
-        Ok(book) => with_write_setup(outs.to_write_setup, book),
-        Err(kind) => Err(kind),
-    }
-}
-
-/// The book after a new uniforms address, where there is one.
-pub fn with_uniform_to(value: Option<u32>, book: Book) -> Book
-    ensures { result ≡ after_uniform_to value book }
-{
-    match value {
-        None => book,
-        Some(uniform_at) => Book { uniform_at, ..book },
     }
 }

@@ -1,6 +1,7 @@
 ghost use Rattle.std.specs.Prelude.{◌≡◌, ◌<◌, if◌then◌else◌, length};
 ghost use Rattle.qpu_word.specs.Operands.{row_of};
 ghost use Rattle.qpu_word.specs.Processor.{opening_book, opening_processor};
+ghost use Rattle.qpu_word.specs.Books.{IsSoundBook};
 
 use qpu_word::{Book, Flags, Halt, LANES, Lanes, Rest};
 use std::marker::Model;
@@ -60,7 +61,7 @@ impl Model for Processor {
 
 impl Processor {
     /// Processor q before any step, with the byte address of its uniforms: all registers are 0.
-    #[tactic(auto, unfolding(qpu_word::specs::Processor::opening_processor, qpu_word::specs::Lanes::lanes))]
+    #[tactic(auto, unfolding(qpu_word::specs::Processor::opening_processor, qpu_word::specs::Lanes::lanes), using(qpu_word::proofs::BookLemmas::opening_sound))]
     pub fn new(q: u32, uniforms: u32) -> Processor
         requires { q < 12 }
         ensures { result ≡ opening_processor q uniforms }
@@ -85,6 +86,14 @@ impl Processor {
         ensures { result ≡ self.now.q }
     {
         self.q
+    }
+
+    /// What it was given for its accesses; its setups are valid ones.
+    pub(crate) fn book_now(&self) -> Book
+        ensures book { result ≡ self.now.book }
+        ensures sound { IsSoundBook result }
+    {
+        self.book
     }
 
     /// The place of the next word, counted in words from 0.

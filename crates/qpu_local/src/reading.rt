@@ -112,7 +112,7 @@ impl Processor {
 
     /// What a mux gives.
     #[tactic(auto, unfolding(qpu_word::specs::Operands::operand))]
-    pub fn operand(&self, f: &Fields, ins: &Ins, mux: u32) -> Lanes
+    pub(crate) fn operand(&self, f: &Fields, ins: &Ins, mux: u32) -> Lanes
         requires unpack { f.now.unpack < 8 }
         requires mux { mux < 8 }
         ensures { Gives result.v (operand f.now self.now ins.now mux) }

@@ -129,7 +129,7 @@ impl Processor {
     }
 
     /// What a word sends, and the flags after it.
-    pub fn sent(&self, f: &Fields, ins: &Ins) -> Sent
+    pub(crate) fn sent(&self, f: &Fields, ins: &Ins) -> Sent
         requires fit { IsFit f.now }
         requires place { IsTrue (is_branch f.now) → self.now.place < 4096 }
         ensures add { result.add.v ≡ add_sent f.now self.now ins.now }

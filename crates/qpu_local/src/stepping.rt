@@ -5,12 +5,13 @@ ghost use Rattle.qpu_word.specs.Words.{fields_of, is_branch, is_local, IsInProfi
 ghost use Rattle.qpu_word.specs.declared.traffic.Ins.{Ins};
 ghost use Rattle.qpu_word.specs.declared.state.Halt.TheVariants.{Going};
 ghost use Rattle.qpu_word.specs.Fit.{IsFit};
+ghost use Rattle.qpu_word.specs.Books.{IsSoundBook};
 ghost use Rattle.qpu_word.specs.Instruction.{registers_after, moved_on, raised_by, add_stored, mul_stored, add_sent, mul_sent, flags_after, no_ins, done, halted, outs_of, after_setups, after_uniform_to, then_after, branch_fails, local_result};
 ghost use Rattle.qpu_local.specs.Steps.{Steps};
 ghost use Rattle.qpu_local.specs.Views.{coming_place};
 
 use crate::control::Next;
-use crate::outs::{outs, with_setups, with_uniform_to};
+use crate::outs::outs;
 use crate::processor::Processor;
 use crate::sending::Sent;
 use crate::storing::cond_of;
@@ -84,6 +85,7 @@ impl Processor {
         requires place { next.place ≤ 2 ^ 29 + self.old.executed + 1 }
         requires coming { coming_place next.rest < 2 ^ 29 }
         requires raised { raised ≤ 1 }
+        requires sound { IsSoundBook book }
         ensures { self.new ≡ moved_on flags next.place next.rest book raised next.halt self.old }
     {
         self.flags = flags;
@@ -97,13 +99,14 @@ impl Processor {
 
     /// Does the whole instruction, with what it read, what it sends and its new book.
     #[tactic(auto, unfolding(qpu_word::specs::Instruction::done), using(qpu_word::proofs::KeptLemmas::executed_kept))]
-    fn finish(&mut self, f: &Fields, ins: &Ins, sent: &Sent, book: Book)
+    pub(crate) fn finish(&mut self, f: &Fields, ins: &Ins, sent: &Sent, book: Book)
         requires fit { IsFit f.now }
         requires executed { self.old.executed < 1000000 }
         requires place { IsTrue (is_branch f.now) → self.old.place < 4096 }
         requires add { sent.now.add.v ≡ add_sent f.now self.old ins.now }
         requires mul { sent.now.mul.v ≡ mul_sent f.now self.old ins.now }
         requires flags { sent.now.flags ≡ flags_after f.now self.old ins.now }
+        requires sound { IsSoundBook book }
         ensures { self.new ≡ done f.now self.old ins.now book }
     {
         let next = self.next(f);
@@ -114,13 +117,14 @@ impl Processor {
 
     /// Faults at its place: the halt alone changes.
     #[tactic(auto, unfolding(qpu_word::specs::Instruction::halted))]
-    fn fault(&mut self, kind: FaultKind)
+    pub(crate) fn fault(&mut self, kind: FaultKind)
         ensures { self.new ≡ halted kind self.old }
     {
         self.halt = Halt::Faulted(kind, self.place);
     }
 
     /// Does a local word that doesn't fail as a branch.
+    #[tactic(auto, using(qpu_word::proofs::BookLemmas::kept_by_setups, qpu_word::proofs::BookLemmas::uniform_sound))]
     fn step_word(&mut self, f: &Fields) -> Option<FaultKind>
         requires fit { IsFit f.now }
         requires executed { self.old.executed < 1000000 }
@@ -130,9 +134,9 @@ impl Processor {
         let ins = nothing_read();
         let sent = self.sent(f, &ins);
         let out = outs(f, &sent);
-        match with_setups(&out, self.book) {
+        match self.book_now().with_setups(&out) {
             Ok(book) => {
-                self.finish(f, &ins, &sent, with_uniform_to(out.uniform_to, book));
+                self.finish(f, &ins, &sent, book.with_uniform_to(out.uniform_to));
                 None
             }
             Err(kind) => {

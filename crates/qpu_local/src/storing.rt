@@ -13,9 +13,10 @@ use qpu_pack::pack_into;
 use qpu_word::code::{ROWS, WRITE_R0, WRITE_R3, WRITE_R5};
 use qpu_word::{Fields, Flags, Ins, LANES, Lanes};
 
-/// The accumulators that TMU loads and writes of address 37 go to.
+/// The accumulator that TMU loads write, r4 of the manual.
 const R4: usize = 4;
 
+/// The accumulator that writes of address 37 go to, r5 of the manual.
 const R5: usize = 5;
 
 /// Lanes of a group whose first one goes to all of it.
@@ -90,7 +91,7 @@ impl Processor {
 
     /// What a unit leaves at its address of a file.
     #[tactic(auto, unfolding(qpu_word::specs::Writing::stored))]
-    pub fn stored(&self, f: &Fields, in_b: bool, address: u32, cond: u32, values: &Lanes) -> Lanes
+    pub(crate) fn stored(&self, f: &Fields, in_b: bool, address: u32, cond: u32, values: &Lanes) -> Lanes
         requires { IsFit f.now }
         ensures { result.v ≡ stored f.now self.now in_b address cond values.now.v }
     {
@@ -127,7 +128,7 @@ impl Processor {
 
     /// The add unit's write.
     #[tactic(auto, unfolding(qpu_word::specs::Instruction::put_add))]
-    pub fn put_add(&mut self, f: &Fields, values: &Lanes)
+    pub(crate) fn put_add(&mut self, f: &Fields, values: &Lanes)
         ensures { self.new ≡ put_add f.now values.now.v self.old }
     {
         if f.add_writes() {
@@ -137,7 +138,7 @@ impl Processor {
 
     /// The mul unit's write.
     #[tactic(auto, unfolding(qpu_word::specs::Instruction::put_mul))]
-    pub fn put_mul(&mut self, f: &Fields, values: &Lanes)
+    pub(crate) fn put_mul(&mut self, f: &Fields, values: &Lanes)
         ensures { self.new ≡ put_mul f.now values.now.v self.old }
     {
         if f.mul_writes() {
@@ -147,7 +148,7 @@ impl Processor {
 
     /// r4 after a TMU load.
     #[tactic(auto, unfolding(qpu_word::specs::Instruction::put_loaded))]
-    pub fn put_loaded(&mut self, f: &Fields, ins: &Ins)
+    pub(crate) fn put_loaded(&mut self, f: &Fields, ins: &Ins)
         ensures { self.new ≡ put_loaded f.now ins.now self.old }
     {
         if f.takes_words() {

@@ -10,13 +10,13 @@ use qpu_alu::{AddOp, MulOp, add_unit, mul_unit};
 use qpu_word::code::ROTATE_BY_R5;
 use qpu_word::{Fields, Ins, LANES, Lanes};
 
-/// The accumulator whose lane 0 rotations can go by.
+/// The accumulator whose lane 0 rotations can go by, r5 of the manual.
 const R5: usize = 5;
 
 impl Processor {
     /// The add unit's results, and its carries where the operation has them.
     #[tactic(auto, unfolding(qpu_word::specs::Instruction::add_values, qpu_word::specs::Instruction::add_carries))]
-    pub fn add_results(&self, f: &Fields, ins: &Ins) -> (Lanes, Option<u32>)
+    pub(crate) fn add_results(&self, f: &Fields, ins: &Ins) -> (Lanes, Option<u32>)
         requires { IsFit f.now }
         ensures values { result.0.v ≡ add_values f.now self.now ins.now }
         ensures carries { result.1 ≡ add_carries f.now self.now ins.now }
@@ -33,7 +33,7 @@ impl Processor {
 
     /// The mul unit's results, before rotation.
     #[tactic(auto, unfolding(qpu_word::specs::Instruction::mul_values))]
-    pub fn mul_results(&self, f: &Fields, ins: &Ins) -> Lanes
+    pub(crate) fn mul_results(&self, f: &Fields, ins: &Ins) -> Lanes
         requires { IsFit f.now }
         ensures { result.v ≡ mul_values f.now self.now ins.now }
     {
@@ -49,7 +49,7 @@ impl Processor {
 
     /// By how many lanes the mul unit's result rotates.
     #[tactic(auto, unfolding(qpu_word::specs::Writing::rotation))]
-    pub fn rotation(&self, f: &Fields) -> u32
+    pub(crate) fn rotation(&self, f: &Fields) -> u32
         requires { IsFit f.now }
         ensures value { result ≡ rotation f.now self.now }
         ensures below { result < 16 }

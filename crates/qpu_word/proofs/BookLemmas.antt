@@ -194,3 +194,11 @@ vector_written_sound (Some v) book writing b = record {
 pub put_sound : (book : Book) → IsSoundBook book → IfOk (put_vector book) IsSoundBook
 unfolding put_vector
 put_sound book b = vector_written_sound book.writes book b.writes b
+
+-- the book that a sound result leaves
+pub sound_result : (due : Result Book FaultKind) (new : Book) → IfOk due IsSoundBook → due ≡ Ok new → IsSoundBook new
+sound_result due new sound is = let P : Result Book FaultKind → Type 0 = λ r. IfOk r IsSoundBook in subst P is sound
+
+-- the book after the setup registers and the uniforms address
+pub kept_by_setups : (outs : Outs) (book new : Book) → IsSoundBook book → after_setups outs book ≡ Ok new → IsSoundBook new
+kept_by_setups outs book new b is = sound_result (after_setups outs book) new (setups_sound outs book b) is
