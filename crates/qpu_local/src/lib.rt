@@ -17,3 +17,6 @@ mod units;
 
 pub use processor::Processor;
 pub use qpu_word::{Flags, Halt};
+
+#[cfg(test)]
+mod tests;

@@ -91,7 +91,14 @@ impl Processor {
 
     /// What a unit leaves at its address of a file.
     #[tactic(auto, unfolding(qpu_word::specs::Writing::stored))]
-    pub(crate) fn stored(&self, f: &Fields, in_b: bool, address: u32, cond: u32, values: &Lanes) -> Lanes
+    pub(crate) fn stored(
+        &self,
+        f: &Fields,
+        in_b: bool,
+        address: u32,
+        cond: u32,
+        values: &Lanes,
+    ) -> Lanes
         requires { IsFit f.now }
         ensures { result.v ≡ stored f.now self.now in_b address cond values.now.v }
     {

@@ -5,3 +5,4 @@ pub mod StepLemmas
 pub mod AloneLemmas
 pub mod NeedLemmas
 pub mod BookLemmas
+pub mod NameLemmas

@@ -9,5 +9,6 @@ pub mod Fit
 pub mod Setups
 pub mod Form
 pub mod Needs
+pub mod Names
 pub mod Books
 pub mod Instruction

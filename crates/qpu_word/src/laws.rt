@@ -15,5 +15,4 @@ pub fn books_stay_sound()
     ensures write { (book : Book) (value : ℕ) → IsSoundBook book → IfOk (put_write book value) IsSoundBook }
     ensures take { (book : Book) → IsSoundBook book → IfOk (take_vector book) IsSoundBook }
     ensures put { (book : Book) → IsSoundBook book → IfOk (put_vector book) IsSoundBook }
-{
-}
+{}

@@ -122,4 +122,11 @@ impl Word {
         let f = self.fields();
         Needs(f.read_needs() + f.write_needs())
     }
+
+    /// Whether the word touches its processor alone.
+    pub fn is_local(self) -> bool
+        ensures { result ≡ is_local (fields_of self.0) }
+    {
+        self.needs().0 == 0
+    }
 }
