@@ -1,1 +1,5 @@
 pub mod Cells
+pub mod Fields
+pub mod Grid
+pub mod RowsReturn
+pub mod Values
