@@ -7,12 +7,7 @@ use Rattle.qpu_word.specs.declared.code.TheConstants.{VPM_ROWS, VPM_COLUMNS}
 use Rattle.qpu_word.specs.Words.{field}
 use Rattle.qpu_word.specs.Setups.{counted}
 use Rattle.qpu_dma.specs.declared.Pair.{Pair}
-
--- a transfer that was started: its setup, the pitch or stride that was given, and the byte address
-pub record Transfer : Type 0 where
-  pub setup : ℕ
-  pub step : ℕ
-  pub address : ℕ
+use Rattle.qpu_dma.specs.declared.transfer.Transfer.{Transfer}
 
 -- the places of a transfer: rows of so many words; the byte address, and the bytes from a row to
 -- the next; the first VPM row and column, whether a row of it stands upright there, and the step

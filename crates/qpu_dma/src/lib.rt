@@ -2,6 +2,10 @@
 //! may start.
 #![tactic(auto)]
 
+mod transfer;
+
+pub use transfer::Transfer;
+
 /// One word of a transfer.
 #[derive(Clone, Copy, Debug, PartialEq, Eq)]
 pub struct Pair {

@@ -10,11 +10,13 @@ use Rattle.qpu_word.specs.declared.code.TheConstants.{NOWHERE, READ_UNIFORM, REA
 use Rattle.qpu_word.specs.Words.{fields_of, reads, reads_a, reads_b, writes, writes_a, writes_b, is_tmu_load, is_semaphore, is_shared, is_local, add_writes, mul_writes}
 use Rattle.qpu_word.specs.Processor.{ProcessorState}
 use Rattle.qpu_word.specs.Instruction.{sent_to, sent_to_a, sent_to_b, first_lane, as_lanes, look_address, outs_from, outs_of, after_setups, after_uniform_to, then_after, branch_fails, done, no_ins, local_result, is_link_point, add_sent, mul_sent}
-use Rattle.qpu_word.proofs.StepLemmas.{nothing_sent}
+use Rattle.qpu_word.proofs.StepLemmas.{or_left, or_right, nothing_sent}
 use Rattle.qpu_word.proofs.AloneLemmas.{IsAlone, alone}
 use Rattle.qpu_shared.specs.declared.cause.Cause.TheVariants.{LoadWait, StoreWait, LoadStart, StoreStart, TmuLoad, Mutex, Up, Down}
-use Rattle.qpu_shared.specs.SharedState.{SharedState, Pending}
-use Rattle.qpu_shared.specs.Instruction.{Outcome, Faults, Done, awaits, first_cause, ins_of, after_reads, after_writes, Starts, shared_after, mutex_after, semaphores_after, pending_after, pending_of, instruction_result, outcome_of, is_running, instruction}
+use Rattle.qpu_shared.specs.declared.pending.Pending.{Pending}
+use Rattle.qpu_shared.specs.declared.starts.Starts.{Starts}
+use Rattle.qpu_shared.specs.SharedState.{SharedState}
+use Rattle.qpu_shared.specs.Instruction.{Outcome, Faults, Done, awaits, first_cause, ins_of, after_reads, after_writes, shared_after, mutex_after, semaphores_after, pending_after, pending_of, instruction_result, outcome_of, is_running, instruction}
 
 and_left : (a b : Bool) → a ≡ false → (a && b) ≡ false
 and_left a b none = rw none refl
@@ -114,6 +116,7 @@ unfolding after_writes
 plain_writes outs memory book is = rw (is.vpm, is.load_at, is.store_at, is.look) refl
 
 same_pending : (f : Fields) (outs : Outs) (book : Book) (pending : Pending) → IsAlone f → pending_after f outs (plain_starts outs book) pending ≡ pending
+unfolding pending_after
 same_pending f outs book pending a = rw (a.take0, a.take1) refl
 
 same_mutex : (f : Fields) (q : ℕ) (mutex : Option ℕ) → IsAlone f → mutex_after f q mutex ≡ mutex
@@ -127,7 +130,7 @@ same_semaphores f counts a = rw a.semaphore refl
 -- it leaves the shared parts as they were
 pub same_shared : (f : Fields) (p : ProcessorState) (outs : Outs) (book : Book) (h : SharedState) → IsAlone f → IsPlainOuts outs
     → shared_after f p outs (plain_starts outs book) h ≡ h
-unfolding shared_after
+unfolding shared_after pending_after
 same_shared f p outs book h a is =
     rw (is.vpm, same_mutex f p.q h.mutex a, same_semaphores f h.semaphores a, same_pending f outs book (pending_of h p.q) a, set-get_or h.pending p.q _) refl
 

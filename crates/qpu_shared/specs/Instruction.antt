@@ -22,12 +22,16 @@ use Rattle.qpu_word.specs.Processor.{ProcessorState}
 use Rattle.qpu_word.specs.Instruction.{outs_of, after_setups, after_uniform_to, then_after, branch_fails, done, is_link_point}
 use Rattle.qpu_sync.specs.Sync.{is_holder}
 use Rattle.qpu_vpm.specs.Cells.{vector_cells}
-use Rattle.qpu_dma.specs.Transfers.{Transfer, Plan, load_plan, store_plan, fits}
+use Rattle.qpu_vpm.specs.Values.{vpm_values, with_cells}
+use Rattle.qpu_dma.specs.declared.transfer.Transfer.{Transfer}
+use Rattle.qpu_dma.specs.Transfers.{Plan, load_plan, store_plan, fits}
 use Rattle.qpu_tmu.specs.declared.look_up.LookUp.{LookUp}
-use Rattle.qpu_tmu.specs.Looks.{oldest_words}
+use Rattle.qpu_tmu.specs.Looks.{LookupsState, queue_of, oldest_words, with_look}
 use Rattle.qpu_shared.specs.declared.cause.Cause.{Cause}
 use Rattle.qpu_shared.specs.declared.cause.Cause.TheVariants.{LoadWait, StoreWait, LoadStart, StoreStart, TmuLoad, Mutex, Up, Down}
-use Rattle.qpu_shared.specs.SharedState.{SharedState, Pending, nothing_pending}
+use Rattle.qpu_shared.specs.declared.pending.Pending.{Pending}
+use Rattle.qpu_shared.specs.declared.starts.Starts.{Starts}
+use Rattle.qpu_shared.specs.SharedState.{SharedState, nothing_pending}
 
 -- what one step of a processor comes to
 pub data Outcome : Type 0 where
@@ -44,12 +48,7 @@ pending_of h q = slice_index_or h.pending q nothing_pending
 
 -- the look-ups of a TMU unit, the oldest first
 abbrev pub looks_of : Pending → ℕ → List LookUp
-looks_of pending unit = if unit == 0 then pending.looks0 else pending.looks1
-
--- the look-ups of a TMU unit replaced
-abbrev pub with_looks : Pending → ℕ → List LookUp → Pending
-with_looks pending unit looks =
-    if unit == 0 then record pending { looks0 = looks } else record pending { looks1 = looks }
+looks_of pending unit = queue_of pending.looks unit
 
 -- a count of a semaphore
 abbrev pub count_of : SharedState → ℕ → ℕ
@@ -87,10 +86,6 @@ first_cause f q h = find (awaits f q h) (causes_of f)
 abbrev pub if_needed : Bool → ℕ → ℕ
 if_needed needed n = if needed then n else 0
 
--- the values of cells of the VPM
-abbrev pub vpm_values : List ℕ → List ℕ → List ℕ
-vpm_values vpm cells = map (slice_index vpm) cells
-
 -- the vector of the next access of a setup; none reads zeros
 abbrev pub next_vector : Option Vectors → List ℕ → List ℕ
 next_vector None vpm = lanes (λ i. 0)
@@ -104,8 +99,8 @@ or_zeros (Some values) = values
 -- the words that a TMU load takes
 abbrev pub taken_words : Fields → Pending → Option (List ℕ)
 taken_words f pending =
-    if is_tmu_load f 0 then oldest_words pending.looks0
-    else if is_tmu_load f 1 then oldest_words pending.looks1
+    if is_tmu_load f 0 then oldest_words (looks_of pending 0)
+    else if is_tmu_load f 1 then oldest_words (looks_of pending 1)
     else None
 
 -- what an instruction reads from the shared parts
@@ -157,19 +152,15 @@ abbrev pub store_started : Option ℕ → Book → List ℕ → Result (Option T
 store_started None book memory = Ok None
 store_started (Some address) book memory = started store_plan memory book.store book.store_stride address
 
+-- the indexes of the words at byte addresses, whose low two bits are without effect
+abbrev pub word_indexes : Lanes → Lanes
+word_indexes addresses = record { v = map (λ a. a / 4) addresses.v }
+
 -- the look-up that is issued, where there is one: each of its words is inside memory
-abbrev pub look_issued : Option Lanes → List ℕ → Result (Option (List ℕ)) FaultKind
+abbrev pub look_issued : Option Lanes → List ℕ → Result (Option Lanes) FaultKind
 look_issued None memory = Ok None
 look_issued (Some addresses) memory =
-    let at = map (λ a. a / 4) addresses.v in
-    if list_all (λ a. nat_lt a (length memory)) at then Ok (Some at) else Err LookUpFault
-
--- what an instruction starts and issues
-pub record Starts : Type 0 where
-  pub book : Book
-  pub load : Option Transfer
-  pub store : Option Transfer
-  pub look : Option (List ℕ)
+    if list_all (λ a. nat_lt (a / 4) (length memory)) addresses.v then Ok (Some (word_indexes addresses)) else Err LookUpFault
 
 -- the writes with an effect outside the registers, in the order in which their faults are tried
 unfoldable pub after_writes : Outs → List ℕ → Book → Result Starts FaultKind
@@ -182,12 +173,6 @@ after_writes outs memory book =
     Ok (record { book = after_uniform_to outs.uniform_to c; load = load; store = store; look = look }))))))
 
 -- effects
-
--- cells of the VPM set to values, one after another
-abbrev pub with_cells : List ℕ → List ℕ → List ℕ → List ℕ
-with_cells vpm [] values = vpm
-with_cells vpm (c ∷ cells) [] = vpm
-with_cells vpm (c ∷ cells) (v ∷ values) = with_cells (slice_set vpm c v) cells values
 
 -- the VPM after a vector written by the write setup in use
 abbrev pub vpm_after : Option Lanes → Option Vectors → List ℕ → List ℕ
@@ -221,18 +206,23 @@ abbrev pub after_take : Fields → ℕ → List LookUp → List LookUp
 after_take f unit looks = if is_tmu_load f unit then drop 1 looks else looks
 
 -- the look-ups of a unit after a new one, where there is one for this unit
-abbrev pub after_issue : Option (List ℕ) → ℕ → ℕ → List LookUp → List LookUp
+abbrev pub after_issue : Option Lanes → ℕ → ℕ → List LookUp → List LookUp
 after_issue None look_unit unit looks = looks
-after_issue (Some at) look_unit unit looks =
-    if look_unit == unit then looks ++ (record { at = at; words = None }) ∷ [] else looks
+after_issue (Some at) look_unit unit looks = if look_unit == unit then with_look at.v looks else looks
+
+-- the look-ups of both units after an instruction: a take, and then a new one
+abbrev pub lookups_after : Fields → Outs → Option Lanes → LookupsState → LookupsState
+lookups_after f outs look lookups = record {
+  looks0 = after_issue look outs.look_unit 0 (after_take f 0 lookups.looks0);
+  looks1 = after_issue look outs.look_unit 1 (after_take f 1 lookups.looks1);
+}
 
 -- what a processor has pending after an instruction
-abbrev pub pending_after : Fields → Outs → Starts → Pending → Pending
+unfoldable pub pending_after : Fields → Outs → Starts → Pending → Pending
 pending_after f outs starts pending = record {
   load = or_pending starts.load pending.load;
   store = or_pending starts.store pending.store;
-  looks0 = after_issue starts.look outs.look_unit 0 (after_take f 0 pending.looks0);
-  looks1 = after_issue starts.look outs.look_unit 1 (after_take f 1 pending.looks1);
+  looks = lookups_after f outs starts.look pending.looks;
 }
 
 -- the shared parts after an instruction

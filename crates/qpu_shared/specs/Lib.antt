@@ -1,2 +1,3 @@
 pub mod SharedState
 pub mod Instruction
+pub mod Moves

@@ -3,5 +3,7 @@
 #![tactic(auto)]
 
 mod cause;
+mod pending;
+mod starts;
 
 pub use cause::Cause;
