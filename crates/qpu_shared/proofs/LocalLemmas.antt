@@ -1,13 +1,13 @@
 -- A local word reads and changes its processor alone.
-use Rattle.std.proofs.Common.{◌≡◌, ℕ, Bool, true, false, not, List, Option, None, Result, Ok, Err, refl, ap, ◌∙◌, arith}
+use Rattle.std.proofs.Common.{◌≡◌, ℕ, Bool, true, false, not, List, Option, None, Result, Ok, Err, refl, ap, ◌∙◌}
 use Rattle.std.proofs.lemmas.List.{set-get_or}
 use Rattle.std.specs.Prelude.{◌==◌, ◌&&◌, ◌||◌, slice_index}
 use Rattle.qpu_word.specs.declared.word.Fields.{Fields}
 use Rattle.qpu_word.specs.declared.traffic.Outs.{Outs}
 use Rattle.qpu_word.specs.declared.setup.Book.{Book}
 use Rattle.qpu_word.specs.declared.fault.FaultKind.{FaultKind}
-use Rattle.qpu_word.specs.declared.code.TheConstants.{NOWHERE, READ_UNIFORM, READ_VPM, READ_DMA_BUSY, READ_DMA_WAIT, READ_MUTEX, WRITE_VPM, WRITE_DMA_ADDRESS, WRITE_MUTEX, WRITE_TMU0_S, WRITE_TMU1_S}
-use Rattle.qpu_word.specs.Words.{fields_of, reads, reads_a, reads_b, writes, writes_a, writes_b, is_tmu_load, is_semaphore, is_shared, is_local, add_writes, mul_writes}
+use Rattle.qpu_word.specs.declared.code.TheConstants.{NOWHERE, WRITE_VPM, WRITE_DMA_ADDRESS, WRITE_TMU0_S, WRITE_TMU1_S}
+use Rattle.qpu_word.specs.Words.{fields_of, is_local, add_writes, mul_writes}
 use Rattle.qpu_word.specs.Processor.{ProcessorState}
 use Rattle.qpu_word.specs.Instruction.{sent_to, sent_to_a, sent_to_b, first_lane, as_lanes, look_address, outs_from, outs_of, after_setups, after_uniform_to, then_after, branch_fails, done, no_ins, local_result, is_link_point, add_sent, mul_sent}
 use Rattle.qpu_word.proofs.StepLemmas.{or_left, or_right, nothing_sent}

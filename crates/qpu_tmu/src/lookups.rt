@@ -86,6 +86,15 @@ impl Lookups {
         self.queue(u).ready()
     }
 
+    /// The sixteen words of the oldest look-up of unit u, 0 or 1; none exactly where it isn't
+    /// fetched or none is there.
+    pub fn oldest(&self, u: u32) -> Option<Lanes>
+        requires { u < 2 }
+        ensures { option_map (λ words. words.v) result ≡ oldest_words (queue_of self.now u) }
+    {
+        self.queue(u).oldest()
+    }
+
     /// Takes the oldest look-up of unit u, 0 or 1, out and gives its sixteen words. None exactly
     /// where it isn't fetched or none is there; then nothing changes.
     pub fn take(&mut self, u: u32) -> Option<Lanes>

@@ -85,6 +85,14 @@ impl Queue {
         self.looks.first().is_some_and(|look| look.words.is_some())
     }
 
+    /// The words of the oldest look-up, where it is there and is fetched.
+    pub(crate) fn oldest(&self) -> Option<Lanes>
+        ensures { option_map (λ words. words.v) result ≡ oldest_words self.now }
+    {
+        let words = self.looks.first()?.words?;
+        Some(Lanes { v: words })
+    }
+
     /// Takes the oldest look-up out where it is fetched, and gives its words; else nothing changes.
     pub(crate) fn take(&mut self) -> Option<Lanes>
         ensures words { option_map (λ words. words.v) result ≡ oldest_words self.old }
