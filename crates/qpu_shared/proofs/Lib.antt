@@ -1,1 +1,5 @@
 pub mod LocalLemmas
+pub mod SharedLemmas
+pub mod WordLemmas
+pub mod SyncLemmas
+pub mod PendingLemmas

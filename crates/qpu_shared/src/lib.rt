@@ -2,8 +2,16 @@
 //! has pending there.
 #![tactic(auto)]
 
+mod awaiting;
 mod cause;
+mod committing;
+mod did;
 mod pending;
+mod reading;
+mod shared;
+mod starting;
 mod starts;
 
 pub use cause::Cause;
+pub use did::Did;
+pub use shared::Shared;
