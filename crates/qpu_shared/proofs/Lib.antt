@@ -3,3 +3,4 @@ pub mod SharedLemmas
 pub mod WordLemmas
 pub mod SyncLemmas
 pub mod PendingLemmas
+pub mod ExecLemmas

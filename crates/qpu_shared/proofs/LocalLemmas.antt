@@ -85,7 +85,7 @@ at_nowhere true r = refl
 at_nowhere false true = refl
 at_nowhere false false = refl
 
-nothing_nowhere : (f : Fields) (add mul : List ℕ) → sent_to f add mul NOWHERE ≡ None
+pub nothing_nowhere : (f : Fields) (add mul : List ℕ) → sent_to f add mul NOWHERE ≡ None
 unfolding sent_to
 nothing_nowhere f add mul = rw (at_nowhere (f.waddr_mul == NOWHERE) _, at_nowhere (f.waddr_add == NOWHERE) _) refl
 

@@ -6,6 +6,7 @@ mod awaiting;
 mod cause;
 mod committing;
 mod did;
+mod executing;
 mod pending;
 mod reading;
 mod shared;

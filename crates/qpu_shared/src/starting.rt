@@ -1,5 +1,5 @@
 //! What an instruction starts and issues, and why it may not.
-ghost use Rattle.std.specs.Prelude.{◌≡◌, ◌/◌, nat_lt, length, IfOk};
+ghost use Rattle.std.specs.Prelude.{◌≡◌, ◌/◌, nat_lt, length, IfOk, IsSome};
 ghost use Rattle.std.specs.List.{list_all};
 ghost use Rattle.qpu_dma.specs.Transfers.{load_plan, store_plan};
 ghost use Rattle.qpu_word.specs.Books.{IsSoundBook};
@@ -111,7 +111,8 @@ impl Shared {
 
     /// The look-up that is issued, where there is one; `LookUp` where a word lies outside memory.
     fn look_issued(&self, addresses: &Option<Lanes>) -> Result<Option<Lanes>, FaultKind>
-        ensures { result ≡ look_issued addresses.now self.now.memory }
+        ensures value { result ≡ look_issued addresses.now self.now.memory }
+        ensures sent { IfOk result (λ look. IsSome look → IsSome addresses.now) }
     {
         match addresses {
             None => Ok(None),
@@ -134,6 +135,7 @@ impl Shared {
         ensures sound { IfOk result (λ starts. IsSoundBook starts.book) }
         ensures load { IfOk result (λ starts. IsFitting load_plan (length self.now.memory) starts.load) }
         ensures store { IfOk result (λ starts. IsFitting store_plan (length self.now.memory) starts.store) }
+        ensures sent { IfOk result (λ starts. IsSome starts.look → IsSome outs.now.look) }
     {
         let book = after_vpm_write(&outs.vpm, book)?;
         let book = book.with_setups(outs)?;
