@@ -29,12 +29,19 @@ impl Model for LoadPlan {
     ghost inverse = { λ plan. record { places = places_of plan } };
 }
 
+/// A pitch code p, 1 to 15, stands for 8 * 2^p bytes.
+const PITCH_UNIT: u32 = 8;
+
 /// The bytes from a row of a load to the next: by the setup's code, or the extended pitch.
 fn load_pitch(setup: u32, extended: u32) -> u32
     ensures { result ≡ load_pitch setup extended }
 {
     let code = bits(setup, 24, 4);
-    if code == 0 { extended } else { 8 << code }
+    if code == 0 {
+        extended
+    } else {
+        PITCH_UNIT << code
+    }
 }
 
 /// The places of a load.

@@ -7,7 +7,7 @@ use crate::Pair;
 use qpu_word::code::{VPM_COLUMNS, VPM_ROWS};
 
 /// The bytes of a word.
-const WORD: u64 = 4;
+pub(crate) const WORD: u32 = 4;
 
 /// The places of a transfer: rows of so many words.
 #[derive(Clone, Copy, Debug)]
@@ -63,14 +63,14 @@ impl Places {
     {
         let along = u64::from(j);
         let across = u64::from(k) * u64::from(self.vpm_pitch);
-        let bytes = u64::from(self.address) + u64::from(k) * self.pitch + WORD * along;
+        let bytes = u64::from(self.address) + u64::from(k) * self.pitch + u64::from(WORD) * along;
         let (down, right) = if self.vertical {
             (along, across)
         } else {
             (across, along)
         };
         Spot {
-            word: bytes / WORD,
+            word: bytes / u64::from(WORD),
             row: u64::from(self.row) + down,
             column: u64::from(self.column) + right,
         }
@@ -81,7 +81,7 @@ impl Places {
     fn is_aligned(&self) -> bool
         ensures { result ≡ ((self.now.address % 4 == 0) && (nat_lt self.now.rows 2 || (self.now.aligned % 4 == 0))) }
     {
-        self.address % 4 == 0 && (self.rows < 2 || self.aligned % 4 == 0)
+        self.address % WORD == 0 && (self.rows < 2 || self.aligned % WORD == 0)
     }
 
     /// Whether the transfer may start, for a memory of so many words. No pair has a greater word,
