@@ -1,8 +1,7 @@
 -- What a shared instruction comes to, put together from its parts.
-use Rattle.std.proofs.Common.{◌≡◌, ◌≢◌, ◌<◌, ℕ, Bool, true, false, not, List, length, find, Option, Some, None, Result, Ok, Err, IsSome, refl, sym, subst, ap, ◌∙◌, arith, if◌then◌else◌}
-use Rattle.std.specs.Prelude.{◌==◌, ◌&&◌}
+use Rattle.std.proofs.Common.{◌≡◌, ◌≢◌, ◌<◌, ℕ, Bool, true, false, List, length, Option, Some, None, Result, Ok, Err, IsSome, refl, sym, ap, ◌∙◌, arith, if◌then◌else◌}
+use Rattle.std.specs.Prelude.{◌==◌}
 use Rattle.qpu_word.specs.declared.word.Fields.{Fields}
-use Rattle.qpu_word.specs.declared.lanes.Lanes.{Lanes}
 use Rattle.qpu_word.specs.declared.setup.Book.{Book}
 use Rattle.qpu_word.specs.declared.traffic.Ins.{Ins}
 use Rattle.qpu_word.specs.declared.traffic.Outs.{Outs}
@@ -10,16 +9,15 @@ use Rattle.qpu_word.specs.declared.fault.FaultKind.{FaultKind}
 use Rattle.qpu_word.specs.declared.code.TheConstants.{NOWHERE, WRITE_TMU1_S}
 use Rattle.qpu_word.specs.Words.{fields_of, is_branch}
 use Rattle.qpu_word.specs.Processor.{ProcessorState}
-use Rattle.qpu_word.specs.Instruction.{outs_from, outs_of, look_address, sent_to, as_lanes, then_after, branch_fails, done, add_sent, mul_sent}
+use Rattle.qpu_word.specs.Instruction.{outs_from, outs_of, look_address, sent_to, as_lanes, then_after, branch_fails, done}
 use Rattle.qpu_word.proofs.ProfileLemmas.{every_row}
-use Rattle.qpu_shared.specs.declared.cause.Cause.{Cause}
 use Rattle.qpu_shared.specs.declared.cause.Cause.TheVariants.{LoadWait}
 use Rattle.qpu_shared.specs.declared.pending.Pending.{Pending}
 use Rattle.qpu_shared.specs.declared.starts.Starts.{Starts}
 use Rattle.qpu_shared.specs.SharedState.{SharedState}
 use Rattle.qpu_shared.specs.Instruction.{Done, Faults, outcome_under, awaits, causes_of, first_cause, ins_of, after_reads, after_writes, shared_after, instruction_result, looks_of}
 use Rattle.qpu_shared.specs.Free.{IsFree}
-use Rattle.qpu_shared.specs.Exec.{look_ups, look_unit_of, HasRoom}
+use Rattle.qpu_shared.specs.Exec.{look_ups, HasRoom}
 use Rattle.qpu_shared.proofs.LocalLemmas.{nothing_nowhere}
 
 -- where no cause holds, nothing is awaited

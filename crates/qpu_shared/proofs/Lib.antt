@@ -4,3 +4,4 @@ pub mod WordLemmas
 pub mod SyncLemmas
 pub mod PendingLemmas
 pub mod ExecLemmas
+pub mod MoveLemmas

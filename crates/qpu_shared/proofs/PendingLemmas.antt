@@ -1,9 +1,9 @@
 -- What one processor has pending, in the list of all.
-use Rattle.std.proofs.Common.{◌≡◌, ℕ, ◌<◌, List, length, get_or, Option, None, Some, refl, sym, subst, ap, ◌∙◌, arith}
-use Rattle.std.proofs.Math.ListN.{set, length-set}
+use Rattle.std.proofs.Common.{◌≡◌, ℕ, ◌<◌, List, length, Option, None, Some}
+use Rattle.std.proofs.Math.ListN.{set}
 use Rattle.std.proofs.lemmas.List.{get_or_default}
 use Rattle.std.proofs.lemmas.List.Elements.{All-set}
-use Rattle.std.specs.Prelude.{All, slice_index_or, slice_set, is_some, is_none, false, ◌&&◌, IsSome}
+use Rattle.std.specs.Prelude.{All, slice_index_or, slice_set}
 use Rattle.qpu_word.specs.declared.word.Fields.{Fields}
 use Rattle.qpu_word.specs.declared.traffic.Outs.{Outs}
 use Rattle.qpu_dma.specs.declared.transfer.Transfer.{Transfer}

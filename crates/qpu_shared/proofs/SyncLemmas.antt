@@ -1,5 +1,5 @@
 -- The holder and the counts after a release.
-use Rattle.std.proofs.Common.{◌≡◌, ℕ, Bool, true, false, List, Option, None, refl, if◌then◌else◌}
+use Rattle.std.proofs.Common.{◌≡◌, ℕ, Bool, true, false, None, refl, if◌then◌else◌}
 use Rattle.qpu_sync.specs.Sync.{SyncState, is_holder, released}
 
 holder_by : (test : Bool) (unit : SyncState) → (if test then record unit { holder = None } else unit).holder ≡ (if test then None else unit.holder)

@@ -1,5 +1,5 @@
 -- What a shared word finds, and what a call that does it answers. This project's own.
-use Rattle.std.specs.Prelude.{◌≡◌, ◌≢◌, ◌<◌, ◌==◌, ℕ, length, if◌then◌else◌}
+use Rattle.std.specs.Prelude.{◌≡◌, ◌≢◌, ◌<◌, ◌==◌, ℕ, Bool, true, false, length, Option, Some, None, if◌then◌else◌}
 use Rattle.qpu_word.specs.declared.word.Fields.{Fields}
 use Rattle.qpu_word.specs.declared.code.TheConstants.{NOWHERE, WRITE_TMU1_S}
 use Rattle.qpu_word.specs.Processor.{ProcessorState}
@@ -29,3 +29,9 @@ abbrev pub Does : Did → Outcome → ProcessorState → SharedState → Process
 Does Stepped due p h after left = due ≡ Done after left
 Does (ItAwaits cause) due p h after left = (due ≡ Awaits cause) × (after ≡ p) × (left ≡ h)
 Does (ItFaulted kind) due p h after left = (due ≡ Faults kind) × (after ≡ halted kind p) × (left ≡ h)
+
+-- a call answered and made a move, from the shared parts before it to those after it; or there was
+-- none to make, and nothing changed
+abbrev pub Moves : Bool → Option SharedState → SharedState → SharedState → Type 0
+Moves true due h left = due ≡ Some left
+Moves false due h left = (due ≡ None) × (left ≡ h)

@@ -1,7 +1,6 @@
 -- What code may lean on where an instruction has no cause to await. This project's own.
-use Rattle.std.specs.Prelude.{◌≡◌, ◌<◌, ◌≤◌, ℕ, ◌==◌, ◌&&◌, not, false, length, is_some, is_none, Option, IsSome}
+use Rattle.std.specs.Prelude.{◌≡◌, ℕ, ◌==◌, ◌&&◌, not, false, is_some, is_none}
 use Rattle.qpu_word.specs.declared.word.Fields.{Fields}
-use Rattle.qpu_word.specs.declared.lanes.Lanes.{Lanes}
 use Rattle.qpu_word.specs.declared.code.TheConstants.{READ_MUTEX, SEMAPHORE_MOST}
 use Rattle.qpu_word.specs.Words.{reads, is_tmu_load, is_semaphore}
 use Rattle.qpu_tmu.specs.Looks.{oldest_words}

@@ -1,5 +1,5 @@
 -- What contracts see of the shared parts: their state.
-use Rattle.std.specs.Prelude.{ℕ, List, All, Option, IfSome, IsTrue, length}
+use Rattle.std.specs.Prelude.{ℕ, All, Option, IfSome, IsTrue, length}
 use Rattle.qpu_dma.specs.declared.transfer.Transfer.{Transfer}
 use Rattle.qpu_dma.specs.Transfers.{Plan, load_plan, store_plan, fits}
 use Rattle.qpu_shared.specs.declared.pending.Pending.{Pending}

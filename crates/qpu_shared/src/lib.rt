@@ -7,6 +7,7 @@ mod cause;
 mod committing;
 mod did;
 mod executing;
+mod moving;
 mod pending;
 mod reading;
 mod shared;

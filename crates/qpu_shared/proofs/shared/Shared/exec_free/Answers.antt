@@ -1,6 +1,5 @@
 use Rattle.std.proofs.Common.{refl, sym}
 use Rattle.qpu_word.specs.Words.{fields_of}
-use Rattle.qpu_word.specs.Instruction.{add_sent, mul_sent}
 use Rattle.qpu_shared.specs.Instruction.{pending_of}
 use Rattle.qpu_shared.proofs.ExecLemmas.{free_of_none, unit_below, room_found, exec_done, exec_fault}
 use Rattle.qpu_shared.proofs.shared.Shared.exec_free.Goals as goal

@@ -1,5 +1,4 @@
-use Rattle.std.proofs.Common.{refl, ◌∙◌, ap}
-use Rattle.qpu_sync.specs.Sync.{SyncState, released}
+use Rattle.std.proofs.Common.{refl}
 use Rattle.qpu_shared.proofs.SyncLemmas.{released_holder, released_counts}
 use Rattle.qpu_shared.proofs.shared.Shared.release.Goals as goal
 
