@@ -10,64 +10,11 @@ use Rattle.qpu_word.specs.declared.code.TheConstants.{NOWHERE, READ_UNIFORM, REA
 use Rattle.qpu_word.specs.Words.{fields_of, reads, reads_a, reads_b, writes, writes_a, writes_b, is_tmu_load, is_semaphore, is_shared, is_local, add_writes, mul_writes}
 use Rattle.qpu_word.specs.Processor.{ProcessorState}
 use Rattle.qpu_word.specs.Instruction.{sent_to, sent_to_a, sent_to_b, first_lane, as_lanes, look_address, outs_from, outs_of, after_setups, after_uniform_to, then_after, branch_fails, done, no_ins, local_result, is_link_point, add_sent, mul_sent}
-use Rattle.qpu_word.proofs.StepLemmas.{or_left, or_right, no_write_a, no_write_b, nothing_sent}
+use Rattle.qpu_word.proofs.StepLemmas.{nothing_sent}
+use Rattle.qpu_word.proofs.AloneLemmas.{IsAlone, alone}
 use Rattle.qpu_shared.specs.declared.cause.Cause.TheVariants.{LoadWait, StoreWait, LoadStart, StoreStart, TmuLoad, Mutex, Up, Down}
 use Rattle.qpu_shared.specs.SharedState.{SharedState, Pending}
 use Rattle.qpu_shared.specs.Instruction.{Outcome, Faults, Done, awaits, first_cause, ins_of, after_reads, after_writes, Starts, shared_after, mutex_after, semaphores_after, pending_after, pending_of, instruction_result, outcome_of, is_running, instruction}
-
--- what a local word doesn't do
-pub record IsAlone (f : Fields) : Type 0 where
-  pub uniform : reads f READ_UNIFORM ≡ false
-  pub vpm : reads f READ_VPM ≡ false
-  pub busy_a : reads_a f READ_DMA_BUSY ≡ false
-  pub busy_b : reads_b f READ_DMA_BUSY ≡ false
-  pub wait_a : reads_a f READ_DMA_WAIT ≡ false
-  pub wait_b : reads_b f READ_DMA_WAIT ≡ false
-  pub mutex : reads f READ_MUTEX ≡ false
-  pub to_vpm : writes f WRITE_VPM ≡ false
-  pub start_a : writes_a f WRITE_DMA_ADDRESS ≡ false
-  pub start_b : writes_b f WRITE_DMA_ADDRESS ≡ false
-  pub release : writes f WRITE_MUTEX ≡ false
-  pub look0 : writes f WRITE_TMU0_S ≡ false
-  pub look1 : writes f WRITE_TMU1_S ≡ false
-  pub take0 : is_tmu_load f 0 ≡ false
-  pub take1 : is_tmu_load f 1 ≡ false
-  pub semaphore : is_semaphore f ≡ false
-
--- a list of tests none of which holds
-all_false : (a b c d e g h i j k l m n : Bool) → (a || b || c || d || e || g || h || i || j || k || l || m || n) ≡ false
-    → (a ≡ false) × (b ≡ false) × (c ≡ false) × (d ≡ false) × (e ≡ false) × (g ≡ false) × (h ≡ false) × (i ≡ false) × (j ≡ false) × (k ≡ false) × (l ≡ false) × (m ≡ false) × (n ≡ false)
-all_false a b c d e g h i j k l m n none = grind arith
-
-not_true : (b : Bool) → not b ≡ true → b ≡ false
-not_true false h = refl
-not_true true h = absurd (cc)
-
--- a local word is alone
-pub alone : (f : Fields) → is_local f ≡ true → IsAlone f
-unfolding is_shared
-alone f local =
-    let t = all_false (reads f READ_UNIFORM) (reads f READ_VPM) (reads f READ_DMA_BUSY) (reads f READ_DMA_WAIT) (reads f READ_MUTEX)
-    (writes f WRITE_VPM) (writes f WRITE_DMA_ADDRESS) (writes f WRITE_MUTEX) (writes f WRITE_TMU0_S) (writes f WRITE_TMU1_S)
-    (is_tmu_load f 0) (is_tmu_load f 1) (is_semaphore f) (not_true _ local) in
-    record {
-      uniform = t.0;
-      vpm = t.1;
-      busy_a = or_left _ _ t.2;
-      busy_b = or_right _ _ t.2;
-      wait_a = or_left _ _ t.3;
-      wait_b = or_right _ _ t.3;
-      mutex = t.4;
-      to_vpm = t.5;
-      start_a = no_write_a f WRITE_DMA_ADDRESS t.6;
-      start_b = no_write_b f WRITE_DMA_ADDRESS t.6;
-      release = t.7;
-      look0 = t.8;
-      look1 = t.9;
-      take0 = t.10;
-      take1 = t.11;
-      semaphore = t.12;
-    }
 
 and_left : (a b : Bool) → a ≡ false → (a && b) ≡ false
 and_left a b none = rw none refl

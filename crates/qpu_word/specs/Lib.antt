@@ -7,4 +7,6 @@ pub mod Flags
 pub mod Processor
 pub mod Fit
 pub mod Setups
+pub mod Form
+pub mod Needs
 pub mod Instruction
