@@ -1,7 +1,7 @@
 //! Slots in progress, and the successors that they leave.
 
 /// The slots in progress after a branch or program end.
-#[derive(Clone, Copy, Debug, PartialEq, Eq)]
+#[derive(Clone, Copy, Debug, PartialEq, Eq, Hash)]
 pub struct Slots {
     /// The place of the branch or program end.
     pub place: u32,

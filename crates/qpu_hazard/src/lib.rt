@@ -1,0 +1,19 @@
+//! The hazard checker: whether some path of a program breaks a rule on the words executed one after
+//! another.
+//!
+//! It judges all paths at once, by visiting each trail that a path can leave; a trail is what later
+//! words depend on. It answers the first hazard there is, or a checked program, whose type keeps
+//! that no path breaks a rule. docs/HAZARDS.md tells the rules and why they are there.
+#![tactic(auto)]
+
+mod best;
+mod breaks;
+mod demands;
+mod rules;
+mod search;
+mod seen;
+mod trail;
+
+pub use breaks::{Break, Hazard};
+pub use demands::LOOKS_MOST;
+pub use trail::Trail;
