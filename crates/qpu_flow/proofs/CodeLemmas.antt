@@ -19,6 +19,11 @@ pub number_at : (words : List Word) (at : ℕ) (d : Word) → at < length words 
 unfolding numbers_of
 number_at words at d there = get_or-map (λ (word : Word). word.0) words at d 0 there
 
+pub word_at : (words : List Word) (at : ℕ) (word : Word) → at < length words → word ≡ get_or words at word → word ≡ record { 0 = get_or (numbers_of words) at 0 }
+word_at words at word there is =
+    let number : word.0 ≡ get_or (numbers_of words) at 0 = ap (λ (w : Word). w.0) is ∙ sym (number_at words at word there) in
+    λ i. record { 0 = number i }
+
 -- a place of the program behind the first slots is a link point where the branch before links
 pub link_point_at : (code : List ℕ) (at : ℕ) → at < length code → 4 ≤ at → is_link_point code at ≡ writes_link (fields_at code (at - 4))
 unfolding is_link_point fields_at

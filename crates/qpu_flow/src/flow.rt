@@ -1,5 +1,6 @@
 //! A program of the profile, and where control goes in it.
-ghost use Rattle.std.specs.Prelude.{◌≡◌, ◌<◌, ◌≤◌, length, filter, IfOk, OnOk, IfErr, IfSome, IfNone};
+ghost use Rattle.std.specs.Prelude.{◌≡◌, ◌<◌, ◌≤◌, length, filter, IfOk, OnOk, IfErr, IfSome, IfNone, slice_index};
+ghost use Rattle.std.specs.Option.{SomeIff};
 ghost use Rattle.std.specs.List.{range_with_len};
 ghost use Rattle.qpu_word.specs.Instruction.{is_link_point};
 ghost use Rattle.qpu_word.specs.Words.{word_fault};
@@ -141,6 +142,17 @@ impl Flow {
         ensures short { length self.now ≤ 4096 }
     {
         &self.words
+    }
+
+    /// The word at a place; none exactly where no word stands there.
+    #[tactic(auto, using(crate::proofs::CodeLemmas::word_at, crate::proofs::CodeLemmas::length_numbers))]
+    pub fn word(&self, at: u32) -> Option<Word>
+        ensures { SomeIff result (at < length self.now) (record { 0 = slice_index self.now at }) }
+    {
+        if at as usize >= self.words.len() {
+            return None;
+        }
+        Some(self.words[at as usize])
     }
 
     /// How many words there are.

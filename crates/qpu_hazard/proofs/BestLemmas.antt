@@ -28,9 +28,9 @@ pub kept_more : (old new next : Option Hazard) (at : ℕ) (breaks : List Break) 
 kept_more old new next at breaks i d low falls least one kept = record {
   falls = λ x at_most. falls x (kept.falls x at_most);
   least =
-    All-more (λ y. AtMost next (broken_at at y)) breaks i d low
-    (All-weaker (λ y. AtMost new (broken_at at y)) (λ y. AtMost next (broken_at at y)) (λ y. falls (broken_at at y)) (take i breaks) kept.least)
-    least;
+      All-more (λ y. AtMost next (broken_at at y)) breaks i d low
+      (All-weaker (λ y. AtMost new (broken_at at y)) (λ y. AtMost next (broken_at at y)) (λ y. falls (broken_at at y)) (take i breaks) kept.least)
+      least;
   one = one_more at breaks (get_or breaks i d) (Contains-get_or breaks i d low) kept.one one;
 }
 

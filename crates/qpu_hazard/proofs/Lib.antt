@@ -5,3 +5,4 @@ pub mod KnownLemmas
 pub mod StepLemmas
 pub mod BestLemmas
 pub mod SeenLemmas
+pub mod CompleteLemmas

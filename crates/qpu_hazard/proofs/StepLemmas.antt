@@ -35,16 +35,18 @@ grows_not s n seen best = record {
 
 pub grows_more : (s m n : Search) → Grows s m → Grows m n → Grows s n
 grows_more s m n first second = record {
-  seen = (first.seen.0 ++ second.seen.0,
-    second.seen.1 ∙ ap (λ (l : List Trail). l ++ second.seen.0) first.seen.1 ∙ append_assoc s.seen first.seen.0 second.seen.0);
+  seen = (
+    first.seen.0 ++ second.seen.0,
+    second.seen.1 ∙ ap (λ (l : List Trail). l ++ second.seen.0) first.seen.1 ∙ append_assoc s.seen first.seen.0 second.seen.0,
+  );
   best = λ h at_most. second.best h (first.best h at_most);
 }
 
 pub settled_grows : (code : List ℕ) (s n : Search) (r : Trail) (a : ℕ) → Grows s n → Settled code s r a → Settled code n r a
 settled_grows code s n r a grows settled = record {
   clean = λ none.
-    subst (λ (l : List Trail). Contains l (onward code r a)) (sym grows.seen.1)
-    (Contains-append_left s.seen grows.seen.0 (onward code r a) (settled.clean none));
+      subst (λ (l : List Trail). Contains l (onward code r a)) (sym grows.seen.1)
+      (Contains-append_left s.seen grows.seen.0 (onward code r a) (settled.clean none));
   least = All-weaker (λ b. AtMost s.best (broken_at a b)) (λ b. AtMost n.best (broken_at a b)) (λ b. grows.best (broken_at a b)) (broken_from code r a) settled.least;
 }
 
@@ -60,6 +62,7 @@ ways code next a leads = first (or_cases (asks_for next.ahead a || asks_for next
     second : (asks_for next.ahead a ≡ true) ⊎ (asks_for next.jump (8 * a) ≡ true) → (asks_for next.ahead a ≡ true) ⊎ ((asks_for next.jump (8 * a) ≡ true) ⊎ ((next.any_link ≡ true) × (is_link_point code a ≡ true)))
     second (inl e) = inl e
     second (inr e) = inr (inl e)
+
     first : ((asks_for next.ahead a || asks_for next.jump (8 * a)) ≡ true) ⊎ ((next.any_link && is_link_point code a) ≡ true) → (asks_for next.ahead a ≡ true) ⊎ ((asks_for next.jump (8 * a) ≡ true) ⊎ ((next.any_link ≡ true) × (is_link_point code a ≡ true)))
     first (inl e) = second (or_cases (asks_for next.ahead a) (asks_for next.jump (8 * a)) e)
     first (inr e) = inr (inr (and_first next.any_link (is_link_point code a) e, and_second next.any_link (is_link_point code a) e))
@@ -142,7 +145,7 @@ pub link_follows : (code links : List ℕ) (r : Trail) (i : ℕ) → links ≡ l
     → (next_from code r.slots r.last).any_link ≡ true → IsTrue (follows_from code r (get_or links i 0))
 link_follows code links r i are low any =
     let point : is_link_point code (get_or links i 0) ≡ true =
-        subst (λ (l : List ℕ). All (λ a. is_link_point code a ≡ true) l) (sym are) (links_are_links code) i 0 low in
+    subst (λ (l : List ℕ). All (λ a. is_link_point code a ≡ true) l) (sym are) (links_are_links code) i 0 low in
     by_link code r (get_or links i 0) any point (link_there code (get_or links i 0) point)
 
 pub links_more : (code links : List ℕ) (s n m : Search) (r : Trail) (i : ℕ) → i < length links
@@ -151,8 +154,8 @@ links_more code links s n m r i low sound grows settled before = record {
   sound = sound;
   grows = grows_more s n m before.grows grows;
   settled =
-    All-more (Settled code m r) links i 0 low
-    (All-weaker (Settled code n r) (Settled code m r) (λ a. settled_grows code n m r a grows) (take i links) before.settled) settled;
+      All-more (Settled code m r) links i 0 low
+      (All-weaker (Settled code n r) (Settled code m r) (λ a. settled_grows code n m r a grows) (take i links) before.settled) settled;
 }
 
 pub links_all : (code links : List ℕ) (n : Search) (r : Trail) (i : ℕ) → links ≡ link_points code → length links ≤ i
@@ -222,7 +225,7 @@ settled_one_more : (code : List ℕ) (s n : Search) (i : ℕ) (r : Trail) → i 
 settled_one_more code s n i r low is grows before now k d below a =
     let there : k < length s.seen = omega arith in
     let same : slice_index_or n.seen k d ≡ slice_index_or s.seen k d =
-        ap (λ (l : List Trail). slice_index_or l k d) grows.seen.1 ∙ get_or_append_left s.seen grows.seen.0 d k there in
+    ap (λ (l : List Trail). slice_index_or l k d) grows.seen.1 ∙ get_or_append_left s.seen grows.seen.0 d k there in
     subst (λ (x : Trail). IsTrue (follows_from code x a) → Settled code n x a) (sym same) (by_place (lt_or_same k i below))
   where
     by_place : (k < i) ⊎ (k ≡ i) → IsTrue (follows_from code (slice_index_or s.seen k d) a) → Settled code n (slice_index_or s.seen k d) a

@@ -5,3 +5,4 @@ pub mod Trails
 pub mod Refusal
 pub mod Fitting
 pub mod Search
+pub mod Faults

@@ -302,7 +302,11 @@ pub(crate) fn loads_r4(f: &Fields) -> bool
 fn look_place(unit: u32) -> u32
     ensures { result ≡ look_place unit }
 {
-    if unit == 0 { WRITE_TMU0_S } else { WRITE_TMU1_S }
+    if unit == 0 {
+        WRITE_TMU0_S
+    } else {
+        WRITE_TMU1_S
+    }
 }
 
 /// The look-ups of a unit, 0 or 1, that a word makes.

@@ -8,6 +8,7 @@
 
 mod best;
 mod breaks;
+mod checked;
 mod demands;
 mod rules;
 mod search;
@@ -15,5 +16,9 @@ mod seen;
 mod trail;
 
 pub use breaks::{Break, Hazard};
+pub use checked::{CheckFault, Checked, Programs, check};
 pub use demands::LOOKS_MOST;
 pub use trail::Trail;
+
+#[cfg(test)]
+mod tests;

@@ -52,7 +52,11 @@ fn slot_of(slots: Option<Slots>) -> Option<u32>
     ensures { result ≡ slot_of slots }
 {
     let slots = slots?;
-    if slots.left == 0 { None } else { Some(slots.place) }
+    if slots.left == 0 {
+        None
+    } else {
+        Some(slots.place)
+    }
 }
 
 /// The program end whose slot comes next.
@@ -101,7 +105,12 @@ fn note_after_earlier(
     let Some(earlier) = earlier else {
         return Ok(());
     };
-    note(breaks, uniform_conflict(&flow.fields(earlier), f), H4, earlier)
+    note(
+        breaks,
+        uniform_conflict(&flow.fields(earlier), f),
+        H4,
+        earlier,
+    )
 }
 
 /// Notes the breaks of H5 to H9: at program end and in slots.
@@ -154,16 +163,16 @@ fn note_looks(
     ensures { OnOk result (breaks.new.items ≡ breaks.old.items ++ h13 unit looks f.now at) }
 {
     let looks = looks + looks_made(f, unit);
-    note(breaks, LOOKS_MOST < looks || looks < looks_taken(f, unit), H13, at)
+    note(
+        breaks,
+        LOOKS_MOST < looks || looks < looks_taken(f, unit),
+        H13,
+        at,
+    )
 }
 
 /// Notes the break of H12, where a word uses or tests what isn't defined.
-fn note_undefined(
-    breaks: &mut Vec<Break>,
-    r: &Trail,
-    f: &Fields,
-    at: u32,
-) -> Result<(), AllocError>
+fn note_undefined(breaks: &mut Vec<Break>, r: &Trail, f: &Fields, at: u32) -> Result<(), AllocError>
     ensures { OnOk result (breaks.new.items ≡ breaks.old.items ++ h12 r.now.loaded r.now.flags r.now.carry f.now at) }
 {
     let undefined = (uses_r4(f) && !r.loaded)

@@ -23,13 +23,7 @@ pub(crate) struct Search {
 
 impl Search {
     /// Looks at a word that may follow a trail.
-    fn visit(
-        &mut self,
-        alloc: Global,
-        flow: &Flow,
-        r: &Trail,
-        at: u32,
-    ) -> Result<(), AllocError>
+    fn visit(&mut self, alloc: Global, flow: &Flow, r: &Trail, at: u32) -> Result<(), AllocError>
         requires known { Known flow.now r.now }
         requires follows { IsTrue (follows_from flow.now r.now at) }
         requires sound { Sound flow.now self.old }
@@ -95,12 +89,7 @@ impl Search {
     }
 
     /// Looks at all link points, where they may follow.
-    fn visit_links(
-        &mut self,
-        alloc: Global,
-        flow: &Flow,
-        r: &Trail,
-    ) -> Result<(), AllocError>
+    fn visit_links(&mut self, alloc: Global, flow: &Flow, r: &Trail) -> Result<(), AllocError>
         requires known { Known flow.now r.now }
         requires any { (next_from flow.now r.now.slots r.now.last).any_link ≡ true }
         requires sound { Sound flow.now self.old }

@@ -50,7 +50,11 @@ pub(crate) fn opening_trail() -> Trail
 fn carry_after(f: &Fields, before: bool) -> bool
     ensures { result ≡ carry_after f.now before }
 {
-    if sets_flags(f) { defines_carry(f) } else { before }
+    if sets_flags(f) {
+        defines_carry(f)
+    } else {
+        before
+    }
 }
 
 /// The outstanding look-ups of a unit, 0 or 1, after a word.

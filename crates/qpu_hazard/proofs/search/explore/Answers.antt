@@ -9,9 +9,9 @@ use Rattle.qpu_hazard.proofs.search.explore.Goals as goal
 pub loop-next-init : goal.loop-next-init
 loop-next-init c =
     let opens : Known c.args.flow.now c.opening_trail.result =
-        subst (λ (r : Trail). Known c.args.flow.now r) (sym c.opening_trail.ensures) (opens_known _ c.requires) in
+    subst (λ (r : Trail). Known c.args.flow.now r) (sym c.opening_trail.ensures) (opens_known _ c.requires) in
     let none : All (Known c.args.flow.now) c.new.result =
-        subst (λ (l : List Trail). All (Known c.args.flow.now) l) (sym c.new.ensures) (All-nil (Known c.args.flow.now)) in
+    subst (λ (l : List Trail). All (Known c.args.flow.now) l) (sym c.new.ensures) (All-nil (Known c.args.flow.now)) in
     going_first _ _
     (subst (λ (r : Trail). Contains c.add.new.self r) (c.opening_trail.ensures ∙ opening_kept _) c.in_ok-add.ensures.has)
     (record { known = known_more _ _ _ _ none opens c.in_ok-add.ensures.one; best = tt })

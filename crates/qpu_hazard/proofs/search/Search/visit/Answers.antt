@@ -27,8 +27,8 @@ pub returns-clause-sound : goal.returns-clause-sound
 returns-clause-sound c =
     let none : c.in_ok-breaks.breaks.items ≡ [] = sym c.as_slice-told.ensures.value ∙ empty_from_test _ (sym c.is_empty.ensures ∙ c.if-not-is_empty.false) in
     let known : Known c.args.flow.now c.onward.result =
-        subst (λ (x : Trail). Known c.args.flow.now x) (sym c.onward.ensures)
-        (known_onward _ _ _ c.requires.known c.requires.follows (sym c.in_ok-breaks.ensures ∙ none)) in
+    subst (λ (x : Trail). Known c.args.flow.now x) (sym c.onward.ensures)
+    (known_onward _ _ _ c.requires.known c.requires.follows (sym c.in_ok-breaks.ensures ∙ none)) in
     on_ok_with c.add.result c.add.ensures.one (λ one. record {
       known = known_more _ _ _ _ c.requires.sound.known known one;
       best = best_after _ _ _ _ _ _ c.requires.known c.requires.follows (c.as_slice-told.ensures.value ∙ c.in_ok-breaks.ensures) c.requires.sound.best c.keep_all.ensures.one;
