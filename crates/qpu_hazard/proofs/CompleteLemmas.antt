@@ -1,6 +1,6 @@
 -- A search that is done missed nothing: each path that breaks nothing left a trail that was found.
-use Rattle.std.proofs.Common.{◌≡◌, ◌⊎◌, ℕ, zero, suc, ◌<◌, ◌≤◌, Bool, true, false, List, [], ◌∷◌, length, Option, Some, None, refl, ap, sym, ◌∙◌, subst, inl, inr, arith}
-use Rattle.std.specs.Prelude.{IfSome, IsSomeAnd, IsTrue, Contains, All, ◌==◌, slice_index_or}
+use Rattle.std.proofs.Common.{◌≡◌, ℕ, zero, suc, ◌<◌, Bool, true, false, List, [], ◌∷◌, length, Option, Some, None, refl, ap, sym, ◌∙◌, subst, inr, arith}
+use Rattle.std.specs.Prelude.{IfSome, Contains, ◌==◌}
 use Rattle.std.proofs.lemmas.List.Elements.{All-contains, Contains-get_or}
 use Rattle.std.proofs.lemmas.Bool.Decides.{nat_tests}
 use Rattle.qpu_hazard.specs.declared.breaks.Break.{Break}
@@ -9,7 +9,7 @@ use Rattle.qpu_hazard.specs.declared.trail.Trail.{Trail}
 use Rattle.qpu_hazard.specs.declared.search.Search.{Search}
 use Rattle.qpu_hazard.specs.Rules.{when}
 use Rattle.qpu_hazard.specs.Paths.{IsPath, IsClean, broken}
-use Rattle.qpu_hazard.specs.Trails.{follows_from, broken_from, kept, onward}
+use Rattle.qpu_hazard.specs.Trails.{broken_from, kept}
 use Rattle.qpu_hazard.specs.Refusal.{IsRefusable, IsFirst, NoneRefusable, NotAfter, end_of}
 use Rattle.qpu_hazard.specs.Search.{AtMost, broken_at, Settled, AllSettled, IsClosed}
 use Rattle.qpu_hazard.proofs.KnownLemmas.{there}

@@ -6,3 +6,5 @@ pub mod StepLemmas
 pub mod BestLemmas
 pub mod SeenLemmas
 pub mod CompleteLemmas
+pub mod StandLemmas
+pub mod HoldLemmas

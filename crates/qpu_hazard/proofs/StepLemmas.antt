@@ -1,5 +1,5 @@
 -- Steps of the search: what was settled stays settled, and growth is joined.
-use Rattle.std.proofs.Common.{◌≡◌, ◌⊎◌, ℕ, ◌+◌, ◌*◌, ◌<◌, ◌≤◌, Bool, true, false, List, [], ◌∷◌, ◌++◌, length, get_or, take, Option, Some, None, refl, ap, sym, ◌∙◌, subst, inl, inr, append_assoc, true≢false, eqb, arith}
+use Rattle.std.proofs.Common.{◌≡◌, ◌⊎◌, ℕ, ◌+◌, ◌*◌, ◌<◌, ◌≤◌, Bool, true, false, List, [], ◌∷◌, ◌++◌, length, get_or, take, Option, Some, refl, ap, sym, ◌∙◌, subst, inl, inr, append_assoc, true≢false, arith}
 use Rattle.std.specs.Prelude.{Result, Ok, Err, OnOk, IfSome, IsTrue, Contains, All, nat_lt, ◌==◌, ◌&&◌, ◌||◌, slice_index_or}
 use Rattle.std.specs.List.{range_with_len}
 use Rattle.std.proofs.lemmas.Bool.{ltb-true, lt-ltb, eqb-true}
@@ -20,7 +20,7 @@ use Rattle.qpu_hazard.specs.Fitting.{opening_trail}
 use Rattle.qpu_hazard.specs.Refusal.{IsRefusable}
 use Rattle.qpu_hazard.specs.Search.{AtMost, broken_at, Known, Sound, Settled, AllSettled, SettledBelow, Grows}
 use Rattle.qpu_hazard.proofs.Basics.{and_first, and_second, and_both, or_cases, or_first, or_second, Contains-filter_range, All-filter_test}
-use Rattle.qpu_hazard.proofs.KnownLemmas.{there_from_leads, refusable_after, known_onward}
+use Rattle.qpu_hazard.proofs.KnownLemmas.{there_from_leads, refusable_after}
 
 lt_or_same : (k i : ℕ) → k < i + 1 → (k < i) ⊎ (k ≡ i)
 lt_or_same k i below = grind arith
@@ -67,7 +67,7 @@ ways code next a leads = first (or_cases (asks_for next.ahead a || asks_for next
     first (inl e) = second (or_cases (asks_for next.ahead a) (asks_for next.jump (8 * a)) e)
     first (inr e) = inr (inr (and_first next.any_link (is_link_point code a) e, and_second next.any_link (is_link_point code a) e))
 
-leads_by : (code : List ℕ) (next : Successors) (a : ℕ) → a < length code
+pub leads_by : (code : List ℕ) (next : Successors) (a : ℕ) → a < length code
     → ((asks_for next.ahead a || asks_for next.jump (8 * a)) || (next.any_link && is_link_point code a)) ≡ true → leads_to code next a ≡ true
 leads_by code next a low asks = and_both (nat_lt a (length code)) _ (lt-ltb a (length code) low) asks
 

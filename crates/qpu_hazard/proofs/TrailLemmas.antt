@@ -1,13 +1,11 @@
 -- The trail decides: what may follow a path, what the next word breaks, and the next trail; also
 -- once what no later word depends on is forgotten.
-use Rattle.std.proofs.Common.{◌≡◌, ℕ, Bool, true, false, List, [], ◌∷◌, ◌&&◌, Option, Some, None, refl, ap, sym, ◌∙◌}
+use Rattle.std.proofs.Common.{◌≡◌, ℕ, Bool, true, false, List, ◌∷◌, ◌&&◌, Option, Some, None, refl, ap, sym}
 use Rattle.std.specs.Prelude.{if◌then◌else◌}
 use Rattle.qpu_word.specs.declared.word.Fields.{Fields}
 use Rattle.qpu_word.specs.declared.code.TheConstants.{WRITE_UNIFORMS_ADDRESS, READ_UNIFORM}
 use Rattle.qpu_word.specs.Words.{writes, reads}
 use Rattle.qpu_flow.specs.Code.{fields_at}
-use Rattle.qpu_hazard.specs.declared.breaks.Break.{Break}
-use Rattle.qpu_hazard.specs.declared.trail.Trail.{Trail}
 use Rattle.qpu_hazard.specs.Demands.{uniform_conflict}
 use Rattle.qpu_hazard.specs.Rules.{when, h4, rules_broken}
 use Rattle.qpu_hazard.specs.Paths.{earlier_of, broken, follows}

@@ -1,7 +1,7 @@
 -- VideoCore IV 3D Architecture Reference Guide, "QPU Instruction Encoding" and "QPU Core
 -- Architecture": what the hazard rules ask of one word, and of two words executed one after the
 -- other. Which of them the rules join is told by each rule.
-use Rattle.std.specs.Prelude.{ℕ, ◌+◌, ◌-◌, ◌==◌, ◌&&◌, ◌||◌, Bool, true, false, not, nat_lt, nat_le, Option, Some, None, is_some, if◌then◌else◌}
+use Rattle.std.specs.Prelude.{ℕ, ◌+◌, ◌==◌, ◌&&◌, ◌||◌, Bool, false, not, nat_lt, nat_le, Option, Some, None, is_some, if◌then◌else◌}
 use Rattle.qpu_word.specs.declared.word.Fields.{Fields}
 use Rattle.qpu_word.specs.declared.operation.AddOp.{AddOp}
 use Rattle.qpu_word.specs.declared.code.TheConstants.{MUX_FILE_A, MUX_FILE_B, ROWS, NOWHERE, READ_UNIFORM, READ_VPM, READ_DMA_BUSY, READ_DMA_WAIT, READ_MUTEX, WRITE_R0, WRITE_R3, WRITE_R5, WRITE_UNIFORMS_ADDRESS, WRITE_VPM, WRITE_VPM_SETUP, WRITE_DMA_ADDRESS, WRITE_TMU0_S, WRITE_TMU1_S, ROTATE_BY_R5}

@@ -6,3 +6,5 @@ pub mod Refusal
 pub mod Fitting
 pub mod Search
 pub mod Faults
+pub mod Standing
+pub mod Holds

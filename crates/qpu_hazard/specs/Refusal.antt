@@ -2,10 +2,8 @@
 -- path breaks a rule that broke none before. Paths are unboundedly many, so no function finds it;
 -- the relation says which one is first. This project's own.
 use Rattle.std.specs.Prelude.{◌≡◌, ◌<◌, ◌≤◌, ◌⊎◌, ℕ, List, [], ◌∷◌, Contains}
-use Rattle.qpu_flow.specs.Code.{AllInProfile, IsFirstOutside}
-use Rattle.qpu_hazard.specs.declared.breaks.Break.{Break}
 use Rattle.qpu_hazard.specs.declared.breaks.Hazard.{Hazard}
-use Rattle.qpu_hazard.specs.Paths.{IsPath, IsClean, broken}
+use Rattle.qpu_hazard.specs.Paths.{IsPath, broken}
 
 -- the place at which a path ends; 0 where it has no word
 abbrev pub end_of : List ℕ → ℕ

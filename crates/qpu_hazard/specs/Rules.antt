@@ -1,7 +1,7 @@
 -- The hazard rules H1 to H17, one equation each: what the word that comes next may not do, after
 -- what was executed before it. H14 (a rotation of an operand that can't be rotated) and H17 (a
 -- semaphore word that writes) speak of one word alone and are faults of words outside the profile.
-use Rattle.std.specs.Prelude.{ℕ, ◌+◌, ◌==◌, ◌&&◌, ◌||◌, Bool, true, false, not, nat_lt, List, [], ◌∷◌, ◌++◌, Option, Some, None, if◌then◌else◌}
+use Rattle.std.specs.Prelude.{ℕ, ◌+◌, ◌==◌, ◌&&◌, ◌||◌, Bool, not, nat_lt, List, [], ◌∷◌, ◌++◌, Option, Some, None, if◌then◌else◌}
 use Rattle.qpu_word.specs.declared.word.Fields.{Fields}
 use Rattle.qpu_word.specs.Words.{is_branch, is_program_end}
 use Rattle.qpu_flow.specs.declared.slots.Slots.{Slots}

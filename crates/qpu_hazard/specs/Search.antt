@@ -1,7 +1,6 @@
 -- What the search over all trails keeps: each trail that it found is one of a path that breaks
 -- nothing, and the best hazard is refusable; what was looked at is settled. This project's own.
-use Rattle.std.specs.Prelude.{◌≡◌, ◌<◌, ◌≤◌, ℕ, false, List, [], length, Option, Some, None, IfSome, IsSomeAnd, All, Contains, ◌++◌, IsTrue, slice_index_or}
-use Rattle.qpu_hazard.specs.declared.demands.TheConstants.{LOOKS_MOST}
+use Rattle.std.specs.Prelude.{◌≡◌, ◌<◌, ℕ, List, [], length, Option, IfSome, IsSomeAnd, All, Contains, ◌++◌, IsTrue, slice_index_or}
 use Rattle.qpu_hazard.specs.declared.breaks.Break.{Break}
 use Rattle.qpu_hazard.specs.declared.breaks.Hazard.{Hazard}
 use Rattle.qpu_hazard.specs.declared.trail.Trail.{Trail}

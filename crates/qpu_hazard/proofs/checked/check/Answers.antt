@@ -1,5 +1,4 @@
-use Rattle.std.proofs.Common.{◌≡◌, ℕ, ◌<◌, List, length, sym, ◌∙◌, ap, subst, arith}
-use Rattle.qpu_flow.specs.Code.{numbers_of}
+use Rattle.std.proofs.Common.{ℕ, ◌<◌, List, length, sym, ◌∙◌, ap, subst, arith}
 use Rattle.qpu_hazard.specs.Refusal.{IsFirst, NoneRefusable}
 use Rattle.qpu_hazard.proofs.CompleteLemmas.{first_found, none_found, clean_from_none, first_of_empty}
 use Rattle.qpu_hazard.proofs.checked.check.Goals as goal

@@ -1,4 +1,4 @@
-use Rattle.std.proofs.Common.{◌≡◌, [], sym, ◌∙◌, subst, arith}
+use Rattle.std.proofs.Common.{◌≡◌, [], sym, ◌∙◌, subst}
 use Rattle.qpu_hazard.specs.declared.trail.Trail.{Trail}
 use Rattle.qpu_hazard.specs.Search.{Known}
 use Rattle.qpu_hazard.proofs.KnownLemmas.{fits_known, there_known, known_onward}
