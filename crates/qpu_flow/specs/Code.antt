@@ -1,0 +1,24 @@
+-- A program as the list of its words' numbers, and where it leaves the profile. This project's own.
+use Rattle.std.specs.Prelude.{◌≡◌, ◌<◌, ℕ, List, map, length, Some, slice_index, EachIndex}
+use Rattle.qpu_word.specs.declared.word.Word.{Word}
+use Rattle.qpu_word.specs.declared.word.Fields.{Fields}
+use Rattle.qpu_word.specs.declared.fault.WordFault.{WordFault}
+use Rattle.qpu_word.specs.Words.{fields_of, word_fault, IsInProfile}
+
+-- the numbers of words
+unfoldable pub numbers_of : List Word → List ℕ
+numbers_of words = map (λ (word : Word). word.0) words
+
+-- the fields of the word at a place, counted in words from 0
+unfoldable pub fields_at : List ℕ → ℕ → Fields
+fields_at code at = fields_of (slice_index code at)
+
+-- each word of a program is in the profile
+abbrev pub AllInProfile : List ℕ → Type 0
+AllInProfile code = EachIndex code (λ k. IsInProfile (slice_index code k))
+
+-- a place is the least whose word is outside the profile, and this is that word's fault
+pub record IsFirstOutside (code : List ℕ) (at : ℕ) (fault : WordFault) : Type 0 where
+  pub there : at < length code
+  pub outside : word_fault (slice_index code at) ≡ Some fault
+  pub before : (k : ℕ) → k < at → IsInProfile (slice_index code k)

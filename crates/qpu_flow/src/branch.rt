@@ -1,0 +1,63 @@
+//! What a branch's fields say of its ways.
+ghost use Rattle.std.specs.Prelude.{◌≡◌, ◌<◌};
+ghost use Rattle.qpu_flow.specs.Control.{is_always, is_register, plain_target, target_from, branched};
+
+use crate::control::{Rest, Target};
+use qpu_word::Fields;
+use qpu_word::code::{BRANCH_SLOTS, WORD_BYTES};
+
+/// The condition of a branch that is always taken (Guide, "QPU Instruction Encoding").
+pub const BRANCH_ALWAYS: u32 = 15;
+
+/// Whether a branch's condition is always.
+pub(crate) fn is_always(f: &Fields) -> bool
+    ensures { result ≡ is_always f.now }
+{
+    f.cond_br == BRANCH_ALWAYS
+}
+
+/// Whether a branch adds a row of file A to its target.
+pub(crate) fn is_register(f: &Fields) -> bool
+    ensures { result ≡ is_register f.now }
+{
+    f.reg == 1
+}
+
+/// The target of a branch at a place that adds no row, in bytes.
+#[tactic(auto, unfolding(crate::specs::Control::plain_target))]
+pub(crate) fn plain_target(at: u32, f: &Fields) -> u32
+    requires { at < 4096 }
+    ensures { result ≡ plain_target at f.now }
+{
+    let base = if f.rel == 1 {
+        WORD_BYTES * (at + 1 + BRANCH_SLOTS)
+    } else {
+        0
+    };
+    let sum = u64::from(f.immediate) + u64::from(base);
+    (sum % (1 << 32)) as u32
+}
+
+/// Where a taken branch at a place goes.
+fn target_from(at: u32, f: &Fields) -> Target
+    requires { at < 4096 }
+    ensures { result ≡ target_from at f.now }
+{
+    if is_register(f) {
+        Target::AnyLink
+    } else {
+        Target::Byte(plain_target(at, f))
+    }
+}
+
+/// What is in progress after a branch.
+pub(crate) fn branched(at: u32, f: &Fields, taken: bool) -> Rest
+    requires { at < 4096 }
+    ensures { result ≡ branched at f.now taken }
+{
+    if is_always(f) || taken {
+        Rest::To(BRANCH_SLOTS, target_from(at, f))
+    } else {
+        Rest::Straight
+    }
+}

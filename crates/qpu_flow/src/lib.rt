@@ -1,0 +1,20 @@
+//! Control flow of a program: which word follows which.
+//!
+//! Three slots execute after a branch, two after program end. A register branch goes to any link
+//! point, which is the word after the slots of a branch that writes a link. It judges no program
+//! but by its words' profile; the hazard checker stands on it.
+#![tactic(auto)]
+
+mod branch;
+mod control;
+mod flow;
+mod slots;
+mod ways;
+
+pub use branch::BRANCH_ALWAYS;
+pub use control::{Control, Next, Rest, Target};
+pub use flow::{Flow, FlowFault};
+pub use slots::{Slots, Successors};
+
+#[cfg(test)]
+mod tests;

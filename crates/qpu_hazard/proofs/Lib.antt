@@ -1,0 +1,10 @@
+pub mod Basics
+pub mod RuleLemmas
+pub mod TrailLemmas
+pub mod KnownLemmas
+pub mod StepLemmas
+pub mod BestLemmas
+pub mod SeenLemmas
+pub mod CompleteLemmas
+pub mod StandLemmas
+pub mod HoldLemmas

@@ -1,0 +1,10 @@
+pub mod Demands
+pub mod Rules
+pub mod Paths
+pub mod Trails
+pub mod Refusal
+pub mod Fitting
+pub mod Search
+pub mod Faults
+pub mod Standing
+pub mod Holds

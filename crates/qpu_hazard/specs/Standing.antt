@@ -1,0 +1,40 @@
+-- Where a processor stands on a path: at a word that may follow, with a branch or program end in
+-- progress as the path leaves it, and its choice made. This project's own.
+use Rattle.std.specs.Prelude.{◌≡◌, ◌⊎◌, ◌<◌, ℕ, true, false, List, Option, IfSome, IsSomeAnd, IsTrue}
+use Rattle.qpu_word.specs.Words.{is_branch, is_program_end}
+use Rattle.qpu_word.specs.Instruction.{is_link_point}
+use Rattle.qpu_flow.specs.declared.slots.Slots.{Slots}
+use Rattle.qpu_flow.specs.declared.control.Control.{Control}
+use Rattle.qpu_flow.specs.declared.control.Rest.{Rest}
+use Rattle.qpu_flow.specs.declared.control.Rest.TheVariants.{Straight, Ending, To}
+use Rattle.qpu_flow.specs.declared.control.Next.{Next}
+use Rattle.qpu_flow.specs.declared.control.Next.TheVariants.{At, AnyLink, Ended, Outside}
+use Rattle.qpu_flow.specs.Code.{fields_at}
+use Rattle.qpu_flow.specs.Control.{is_always, target_from, nowhere}
+use Rattle.qpu_hazard.specs.Paths.{slots_of, next_of, follows}
+
+-- what is in progress fits the slots that a path leaves: nothing where none are left to execute, or
+-- after a branch that can be left untaken; program end, or a taken branch, with as many slots left
+abbrev pub RestIs : List ℕ → Option Slots → Rest → Type 0
+RestIs code slots Straight =
+    IfSome slots (λ s.
+    (s.left ≡ 0) ⊎ ((is_branch (fields_at code s.place) ≡ true) × (is_always (fields_at code s.place) ≡ false)))
+RestIs code slots (Ending left) =
+    IsSomeAnd slots (λ s. (s.left ≡ left) × (0 < left) × (is_program_end (fields_at code s.place) ≡ true))
+RestIs code slots (To left target) =
+    IsSomeAnd slots (λ s.
+    (s.left ≡ left) × (0 < left) × (is_branch (fields_at code s.place) ≡ true)
+    × (target ≡ target_from s.place (fields_at code s.place)))
+
+-- control stands on a path
+pub record Stands (code t : List ℕ) (c : Control) : Type 0 where
+  pub follows : IsTrue (follows code t c.place)
+  pub rest : RestIs code (slots_of code t) c.rest
+
+-- where control goes is on a path too: at each link point after a register branch; nothing follows
+-- program end's second slot; and control never asks for an address that is no word
+abbrev pub Goes : List ℕ → List ℕ → Next → Type 0
+Goes code t (At c) = Stands code t c
+Goes code t AnyLink = (at : ℕ) → is_link_point code at ≡ true → Stands code t (record { place = at; rest = Straight })
+Goes code t Ended = next_of code t ≡ nowhere
+Goes code t Outside = ⊥

@@ -1,0 +1,127 @@
+//! The call that judges a program, and what it answers.
+ghost use Rattle.std.specs.Prelude.{◌≡◌, ◌<◌, ◌≤◌, length, IfOk, OnOk, IfErr, slice_index};
+ghost use Rattle.std.specs.Option.{SomeIff};
+ghost use Rattle.qpu_word.specs.Instruction.{is_link_point};
+ghost use Rattle.qpu_flow.specs.Code.{numbers_of, AllInProfile};
+ghost use Rattle.qpu_hazard.specs.Paths.{IsClean};
+ghost use Rattle.qpu_hazard.specs.Refusal.{NoneRefusable};
+ghost use Rattle.qpu_hazard.specs.Faults.{IsCheckFault};
+
+use crate::search::explore;
+use qpu_flow::{Flow, FlowFault};
+use qpu_word::{Program, Word, WordFault};
+use std::alloc::Global;
+use std::marker::Model;
+
+/// Why words are refused.
+#[derive(Clone, Copy, Debug, PartialEq, Eq)]
+pub enum CheckFault {
+    /// The word at this place is outside the profile, and none before it is.
+    Word(u32, WordFault),
+    /// All words are in the profile, and some path breaks a rule at its last word and none before.
+    Hazard {
+        /// The number of the rule, 1 to 16.
+        rule: u32,
+        /// The place of the breaking word, counted in words from 0.
+        at: u32,
+        /// The place told with it: of the word executed directly before for H1 to H3, of the write
+        /// of the uniforms address for H4, of the branch or program end concerned for H5, H7 and
+        /// H9, else `at`.
+        before: u32,
+    },
+    /// Want of memory.
+    Memory,
+}
+
+/// A program of at most 4,096 words, all in the profile, no path of which breaks a rule. Contracts
+/// see the list of its words' numbers.
+#[derive(Debug, Drop)]
+pub struct Checked {
+    flow: Flow,
+}
+
+impl Model for Checked {
+    ghost use Rattle.std.specs.Prelude.{ℕ, List};
+    ghost use Rattle.qpu_hazard.specs.Paths.{IsClean};
+
+    ghost Value = { List ℕ };
+
+    ghost view = { λ checked. checked.flow };
+
+    ghost invariant = { λ checked. IsClean checked.flow };
+}
+
+/// Judges words, at most 4,096, over all paths. `Word` comes exactly where some word is outside the
+/// profile, at the least such place. Otherwise `Hazard` comes exactly where some path breaks a rule
+/// at its last word and breaks none before: the least place, then the least rule, then the least
+/// place told with it.
+pub fn check(alloc: Global, words: &[Word]) -> Result<Checked, CheckFault>
+    requires { length words.now ≤ 4096 }
+    ensures words { IfOk result (λ checked. checked ≡ numbers_of words.now) }
+    ensures inside { OnOk result (AllInProfile (numbers_of words.now)) }
+    ensures clean { OnOk result (NoneRefusable (numbers_of words.now)) }
+    ensures first { IfErr result (IsCheckFault (numbers_of words.now)) }
+{
+    let flow = match Flow::of(alloc, words) {
+        Ok(flow) => flow,
+        Err(FlowFault::Word(at, fault)) => return Err(CheckFault::Word(at, fault)),
+        Err(FlowFault::Memory) => return Err(CheckFault::Memory),
+    };
+    if flow.len() == 0 {
+        return Err(CheckFault::Hazard {
+            rule: 10,
+            at: 0,
+            before: 0,
+        });
+    }
+    let Ok(search) = explore(alloc, &flow) else {
+        return Err(CheckFault::Memory);
+    };
+    match search.best {
+        Some(h) => Err(CheckFault::Hazard {
+            rule: h.rule,
+            at: h.at,
+            before: h.before,
+        }),
+        None => Ok(Checked { flow }),
+    }
+}
+
+impl Checked {
+    /// The words.
+    pub fn words(&self) -> &[Word]
+        ensures words { numbers_of result.now ≡ self.now }
+        ensures short { length self.now ≤ 4096 }
+        ensures inside { AllInProfile self.now }
+        ensures clean { IsClean self.now }
+    {
+        self.flow.words()
+    }
+}
+
+impl Program for Checked {
+    ghost len = { λ checked. length checked };
+
+    ghost word = { λ checked at. slice_index checked at };
+
+    ghost is_link = { λ checked at. is_link_point checked at };
+
+    fn len(&self) -> u32 {
+        self.flow.len()
+    }
+
+    fn word(&self, at: u32) -> Option<Word> {
+        self.flow.word(at)
+    }
+
+    fn is_link(&self, at: u32) -> bool {
+        self.flow.is_link(at)
+    }
+}
+
+/// The checked programs of a machine.
+#[derive(Debug, Drop)]
+pub struct Programs {
+    /// The programs, in their order.
+    pub list: Vec<Checked>,
+}
