@@ -1,5 +1,5 @@
 -- The machine, and one actor's step. This project's own.
-use Rattle.std.specs.Prelude.{◌≡◌, ℕ, Bool, List, [], map, replicate, fold, Option, Some, None, is_some, slice_index, slice_index_or, slice_set}
+use Rattle.std.specs.Prelude.{◌≡◌, ℕ, Bool, List, [], replicate, fold, Option, Some, None, is_some, slice_index, slice_index_or, slice_set}
 use Rattle.qpu_word.specs.declared.code.TheConstants.{PROCESSORS}
 use Rattle.qpu_word.specs.Processor.{ProcessorState, opening_processor}
 use Rattle.qpu_shared.specs.SharedState.{SharedState, opening_shared}
