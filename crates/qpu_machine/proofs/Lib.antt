@@ -1,3 +1,4 @@
 pub mod RunLemmas
 pub mod AloneLemmas
 pub mod OneSerialLaw
+pub mod KeptControl

@@ -4,3 +4,4 @@ pub mod Ending
 pub mod Trace
 pub mod Serial
 pub mod OneSerial
+pub mod Kept
