@@ -1,6 +1,6 @@
 -- What a machine keeps of each processor that goes on: a path of its program to where it stands.
 -- This project's own.
-use Rattle.std.specs.Prelude.{◌≡◌, ◌/◌, ℕ, Bool, true, List, length, is_some}
+use Rattle.std.specs.Prelude.{◌≡◌, ◌≢◌, ◌≤◌, ◌+◌, ◌/◌, ℕ, true, List, length, is_some}
 use Rattle.qpu_word.specs.declared.code.TheConstants.{WORD_BYTES}
 use Rattle.qpu_word.specs.declared.state.Rest.{Rest}
 use Rattle.qpu_word.specs.declared.state.Rest.TheVariants.{Straight, Ending, To}
@@ -12,6 +12,8 @@ use Rattle.qpu_flow.specs.declared.control.Rest.TheVariants.{Straight as PathStr
 use Rattle.qpu_flow.specs.declared.control.Target.{Target}
 use Rattle.qpu_flow.specs.declared.control.Target.TheVariants.{Byte, AnyLink}
 use Rattle.qpu_tmu.specs.Looks.{LookupsState}
+use Rattle.qpu_shared.specs.SharedState.{SharedState}
+use Rattle.qpu_shared.specs.Instruction.{pending_of}
 use Rattle.qpu_hazard.specs.Paths.{IsPath, flags_of, carry_of, looks_of}
 use Rattle.qpu_hazard.specs.Standing.{Stands}
 
@@ -44,3 +46,12 @@ pub record IsOnPath (code : List ℕ) (p : ProcessorState) (looks : LookupsState
 -- a processor that goes on does
 abbrev pub IsKept : List ℕ → ProcessorState → LookupsState → Type 0
 IsKept code p looks = p.halt ≡ Going → IsOnPath code p looks
+
+-- what a word of processor q keeps, whatever became of it: the number, a count that grows by one at
+-- most, where the processor stands, what others have pending, and for how many there is room
+pub record KeepsPath (code : List ℕ) (q : ℕ) (p : ProcessorState) (h : SharedState) (after : ProcessorState) (left : SharedState) : Type 0 where
+  pub number : after.q ≡ q
+  pub executed : after.executed ≤ p.executed + 1
+  pub kept : IsKept code after (pending_of left q).looks
+  pub others : (other : ℕ) → other ≢ q → pending_of left other ≡ pending_of h other
+  pub room : length left.pending ≡ length h.pending

@@ -5,3 +5,6 @@ pub mod Trace
 pub mod Serial
 pub mod OneSerial
 pub mod Kept
+pub mod Views
+pub mod Sound
+pub mod Took

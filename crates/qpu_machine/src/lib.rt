@@ -5,10 +5,13 @@ mod actor;
 mod conclusion;
 mod journal;
 mod laws;
+mod machine;
 mod start;
+mod stepping;
 
 pub use actor::Actor;
 pub use conclusion::Ending;
 pub use journal::Run;
 pub use laws::one_serial_schedule;
+pub use machine::Machine;
 pub use start::Start;

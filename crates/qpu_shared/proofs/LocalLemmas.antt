@@ -16,7 +16,7 @@ use Rattle.qpu_shared.specs.declared.cause.Cause.TheVariants.{LoadWait, StoreWai
 use Rattle.qpu_shared.specs.declared.pending.Pending.{Pending}
 use Rattle.qpu_shared.specs.declared.starts.Starts.{Starts}
 use Rattle.qpu_shared.specs.SharedState.{SharedState}
-use Rattle.qpu_shared.specs.Instruction.{Outcome, Faults, Done, awaits, first_cause, ins_of, after_reads, after_writes, shared_after, mutex_after, semaphores_after, pending_after, pending_of, instruction_result, outcome_of, is_running, instruction}
+use Rattle.qpu_shared.specs.Instruction.{Outcome, Faults, Done, awaits, first_cause, ins_of, after_reads, after_writes, shared_after, mutex_after, semaphores_after, pending_after, pending_of, instruction_result, outcome_of, outcome_under, is_running, instruction}
 
 and_left : (a b : Bool) → a ≡ false → (a && b) ≡ false
 and_left a b none = rw none refl
@@ -161,12 +161,15 @@ local_comes is_link word p h false fails a =
     (beside (after_setups (outs_of (fields_of word) p no_ins) p.book) (fields_of word) p (outs_of (fields_of word) p no_ins) h a
     (plain_outs (fields_of word) (add_sent (fields_of word) p no_ins) (mul_sent (fields_of word) p no_ins) a))
 
+-- a local word under its first cause, which is none
+pub outcome_local : (is_link : ℕ → Bool) (word : ℕ) (p : ProcessorState) (h : SharedState) → is_local (fields_of word) ≡ true
+    → outcome_under (first_cause (fields_of word) p.q h) (instruction_result is_link word p h) ≡ local_outcome (local_result is_link word p) h
+outcome_local is_link word p h local =
+    let a = alone (fields_of word) local in rw (no_cause (fields_of word) p.q h a) (local_comes is_link word p h _ refl a)
+
 -- the whole instruction of a running processor at a local word
 pub instruction_local : (words : List ℕ) (limit : ℕ) (p : ProcessorState) (h : SharedState)
     → is_running limit p ≡ true → is_local (fields_of (slice_index words p.place)) ≡ true
     → instruction words limit p h ≡ local_outcome (local_result (is_link_point words) (slice_index words p.place) p) h
 unfolding instruction
-instruction_local words limit p h runs local =
-    let a = alone (fields_of (slice_index words p.place)) local in
-    rw (runs, no_cause (fields_of (slice_index words p.place)) p.q h a)
-    (local_comes (is_link_point words) (slice_index words p.place) p h _ refl a)
+instruction_local words limit p h runs local = rw runs (outcome_local (is_link_point words) (slice_index words p.place) p h local)

@@ -1,0 +1,26 @@
+-- What a machine keeps in its type. This project's own.
+use Rattle.std.specs.Prelude.{◌≡◌, ◌<◌, ◌≤◌, ℕ, List, length, Option, Some, None, slice_index}
+use Rattle.qpu_word.specs.declared.code.TheConstants.{PROCESSORS, LIMIT_MOST}
+use Rattle.qpu_word.specs.Processor.{ProcessorState}
+use Rattle.qpu_shared.specs.Instruction.{pending_of}
+use Rattle.qpu_machine.specs.Machine.{MachineState, processor_of, words_of}
+use Rattle.qpu_machine.specs.Kept.{IsKept}
+
+-- a processor that was started has its number, and a program of the list; it has executed no more
+-- than the limit; and where it goes on it stands on a path of its program
+pub record IsStarted (m : MachineState) (q : ℕ) (p : ProcessorState) : Type 0 where
+  pub number : p.q ≡ q
+  pub program : slice_index m.program_of q < length m.programs
+  pub executed : p.executed ≤ m.limit
+  pub kept : IsKept (words_of m q) p (pending_of m.shared q).looks
+
+abbrev pub IsStartedAt : MachineState → ℕ → Option ProcessorState → Type 0
+IsStartedAt m q None = Unit {0}
+IsStartedAt m q (Some p) = IsStarted m q p
+
+-- the limit is one of the machine's, something may be pending for each processor, and each is as it
+-- should be
+pub record IsSoundMachine (m : MachineState) : Type 0 where
+  pub limit : m.limit ≤ LIMIT_MOST
+  pub pending : length m.shared.pending ≡ PROCESSORS
+  pub each : (q : ℕ) → q < PROCESSORS → IsStartedAt m q (processor_of m q)

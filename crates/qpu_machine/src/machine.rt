@@ -1,0 +1,71 @@
+//! The machine as one value.
+ghost use Rattle.std.specs.Prelude.{◌≡◌, option_map};
+ghost use Rattle.qpu_machine.specs.Machine.{processor_of};
+
+use crate::start::Start;
+use arrayvec::ArrayVec;
+use qpu_hazard::Programs;
+use qpu_local::Processor;
+use qpu_shared::Shared;
+use std::marker::Model;
+use std::sync::Arc;
+
+/// How many processors a machine may have.
+pub(crate) const PROCESSORS: usize = 12;
+
+/// A machine: a limit of instructions, checked programs, up to twelve processors and what they
+/// share. Contracts see its `MachineState` and its starts. Each processor that goes on stands on a
+/// path of its program, which breaks no hazard rule.
+#[derive(Debug, Drop)]
+pub struct Machine {
+    pub(crate) limit: u32,
+    pub(crate) programs: Arc<Programs>,
+    pub(crate) starts: ArrayVec<Start, PROCESSORS>,
+    pub(crate) program_of: [u32; PROCESSORS],
+    pub(crate) processors: [Option<Processor>; PROCESSORS],
+    pub(crate) shared: Shared,
+}
+
+impl Model for Machine {
+    ghost use Rattle.qpu_machine.specs.Views.{Started, started_of, state_of};
+    ghost use Rattle.qpu_machine.specs.Sound.{IsSoundMachine};
+
+    ghost Value = { Started };
+
+    ghost view = { started_of };
+
+    ghost invariant = { λ inside. IsSoundMachine (state_of inside) };
+}
+
+impl Machine {
+    /// The limit of instructions of each processor, at most 1,000,000.
+    pub fn limit(&self) -> u32
+        ensures { result ≡ self.now.state.limit }
+    {
+        self.limit
+    }
+
+    /// What the processors share.
+    pub fn shared(&self) -> &Shared
+        ensures { result.now ≡ self.now.state.shared }
+    {
+        &self.shared
+    }
+
+    /// The programs.
+    pub fn programs(&self) -> &Programs
+        ensures { result.now.list.items ≡ self.now.state.programs }
+    {
+        &self.programs
+    }
+
+    /// Processor q; none exactly where it wasn't started.
+    pub fn processor(&self, q: u32) -> Option<&Processor>
+        ensures { option_map (λ processor. processor.now) result ≡ processor_of self.now.state q }
+    {
+        match self.processors.get(q as usize) {
+            Some(Some(processor)) => Some(processor),
+            _ => None,
+        }
+    }
+}

@@ -1,0 +1,68 @@
+//! One step of each actor.
+ghost use Rattle.std.specs.Prelude.{◌≡◌, ◌≢◌, ◌<◌, ◌≤◌, ◌+◌, ℕ, length, slice_index, IsTrue};
+ghost use Rattle.qpu_word.specs.declared.state.Halt.TheVariants.{Going};
+ghost use Rattle.qpu_word.specs.Words.{fields_of, is_local, IsInProfile};
+ghost use Rattle.qpu_word.specs.Instruction.{is_link_point, local_result};
+ghost use Rattle.qpu_shared.specs.SharedState.{SharedState};
+ghost use Rattle.qpu_shared.proofs.LocalLemmas.{local_outcome};
+ghost use Rattle.qpu_shared.specs.Instruction.{first_cause, instruction_result, outcome_under, pending_of};
+ghost use Rattle.qpu_shared.specs.Exec.{Does};
+ghost use Rattle.qpu_machine.specs.Kept.{IsOnPath, KeepsPath};
+
+use qpu_hazard::Checked;
+use qpu_local::Processor;
+use qpu_shared::{Did, Shared};
+use qpu_word::Program;
+
+/// Does the local word at a processor's place.
+fn do_local(p: &mut Processor, program: &Checked) -> Did
+    requires going { p.old.halt ≡ Going }
+    requires executed { p.old.executed < 1000000 }
+    requires words { length program.now ≤ 4096 }
+    requires place { p.old.place < length program.now }
+    requires profile { IsInProfile (slice_index program.now p.old.place) }
+    requires local { IsTrue (is_local (fields_of (slice_index program.now p.old.place))) }
+    ensures { (h : SharedState) → Does result (local_outcome (local_result (is_link_point program.now) (slice_index program.now p.old.place) p.old) h) p.old h p.new h }
+{
+    match p.step_local(program) {
+        None => Did::Stepped,
+        Some(kind) => Did::Faulted(kind),
+    }
+}
+
+/// Does the word at the place of processor q, below 12, which goes on, has executed fewer than
+/// 1,000,000 instructions, and stands on a path of its program.
+fn do_word(p: &mut Processor, program: &Checked, shared: &mut Shared, q: u32) -> Did
+    requires q { q < 12 }
+    requires pending { q < length shared.old.pending }
+    requires number { p.old.q ≡ q }
+    requires going { p.old.halt ≡ Going }
+    requires executed { p.old.executed < 1000000 }
+    requires on_path { IsOnPath program.now p.old (pending_of shared.old q).looks }
+    ensures { Does result (outcome_under (first_cause (fields_of (slice_index program.now p.old.place)) q shared.old) (instruction_result (is_link_point program.now) (slice_index program.now p.old.place) p.old shared.old)) p.old shared.old p.new shared.new }
+{
+    let _words = program.words();
+    let Some(word) = program.word(p.place()) else {
+        unreachable!()
+    };
+    if word.is_local() {
+        do_local(p, program)
+    } else {
+        shared.exec(q, p, word)
+    }
+}
+
+/// The same; the processor stands on a path afterwards too, where it still goes on.
+fn keep_word(p: &mut Processor, program: &Checked, shared: &mut Shared, q: u32) -> Did
+    requires q { q < 12 }
+    requires pending { q < length shared.old.pending }
+    requires number { p.old.q ≡ q }
+    requires going { p.old.halt ≡ Going }
+    requires executed { p.old.executed < 1000000 }
+    requires on_path { IsOnPath program.now p.old (pending_of shared.old q).looks }
+    ensures did { Does result (outcome_under (first_cause (fields_of (slice_index program.now p.old.place)) q shared.old) (instruction_result (is_link_point program.now) (slice_index program.now p.old.place) p.old shared.old)) p.old shared.old p.new shared.new }
+    ensures keeps { KeepsPath program.now q p.old shared.old p.new shared.new }
+{
+    let _words = program.words();
+    do_word(p, program, shared, q)
+}
