@@ -1,5 +1,5 @@
 -- A processor of a clean program that stands on a path stands on one after its next word.
-use Rattle.std.proofs.Common.{◌≡◌, ◌<◌, ℕ, ◌+◌, ◌-◌, ◌/◌, ◌%◌, Bool, true, false, not, List, ◌∷◌, length, refl, sym, subst, ap, ◌∙◌, arith, if◌then◌else◌}
+use Rattle.std.proofs.Common.{◌≡◌, ℕ, ◌+◌, ◌-◌, ◌/◌, ◌%◌, Bool, true, false, not, List, ◌∷◌, length, refl, sym, subst, ap, ◌∙◌, arith, if◌then◌else◌}
 use Rattle.std.specs.Prelude.{◌==◌, ◌&&◌, ◌||◌, nat_lt}
 use Rattle.std.proofs.lemmas.Bool.Decides.{nat_tests}
 use Rattle.qpu_word.specs.declared.word.Fields.{Fields}
@@ -11,18 +11,15 @@ use Rattle.qpu_word.specs.declared.state.Halt.TheVariants.{Going, Ended as Ended
 use Rattle.qpu_word.specs.Words.{is_branch, is_program_end}
 use Rattle.qpu_word.specs.Flags.{branch_test}
 use Rattle.qpu_word.specs.Operations.{low32}
-use Rattle.qpu_word.specs.Operands.{row_of}
-use Rattle.qpu_word.specs.Lanes.{lane}
 use Rattle.qpu_word.specs.Processor.{ProcessorState}
-use Rattle.qpu_word.specs.Instruction.{is_link_point, link_of, is_taken, target_of, branch_fails, rest_later, place_later, halt_later, rest_after, place_after, halt_after}
+use Rattle.qpu_word.specs.Instruction.{is_link_point, is_taken, target_of, branch_fails, rest_later, place_later, halt_later, rest_after, place_after, halt_after}
 use Rattle.qpu_flow.specs.declared.control.Rest.{Rest as PathRest}
 use Rattle.qpu_flow.specs.declared.control.Rest.TheVariants.{Straight as PathStraight, Ending as PathEnding, To as PathTo}
 use Rattle.qpu_flow.specs.declared.control.Target.{Target}
 use Rattle.qpu_flow.specs.declared.control.Target.TheVariants.{Byte, AnyLink}
-use Rattle.qpu_flow.specs.declared.control.Next.{Next}
 use Rattle.qpu_flow.specs.declared.control.Next.TheVariants.{At, Outside, Ended}
 use Rattle.qpu_flow.specs.Code.{fields_at}
-use Rattle.qpu_flow.specs.Control.{is_always, is_register, plain_target, is_word_byte, going, arrived, gone_on, target_from, branched, follow}
+use Rattle.qpu_flow.specs.Control.{is_always, is_register, plain_target, is_word_byte, going, arrived, gone_on, target_from, branched}
 use Rattle.qpu_hazard.specs.Paths.{IsPath, IsClean}
 use Rattle.qpu_hazard.specs.Standing.{Stands, Goes}
 use Rattle.qpu_hazard.proofs.StandLemmas.{stays_on}

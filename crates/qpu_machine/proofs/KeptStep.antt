@@ -1,6 +1,6 @@
 -- An instruction of a processor of a clean program keeps that it stands on a path.
-use Rattle.std.proofs.Common.{◌≡◌, ◌≢◌, ◌<◌, ◌≤◌, ◌+◌, ℕ, Bool, true, false, List, ◌∷◌, length, Option, Some, None, Result, Ok, Err, IsTrue, refl, sym, subst, ap, ◌∙◌, arith, if◌then◌else◌}
-use Rattle.std.specs.Prelude.{is_some, ◌||◌, slice_index}
+use Rattle.std.proofs.Common.{◌≡◌, ◌<◌, ◌+◌, ℕ, Bool, true, false, List, ◌∷◌, length, Option, Some, None, Result, Ok, Err, refl, subst, ap, ◌∙◌, arith}
+use Rattle.std.specs.Prelude.{slice_index}
 use Rattle.std.proofs.lemmas.List.{get_or-set_same}
 use Rattle.qpu_word.specs.declared.word.Fields.{Fields}
 use Rattle.qpu_word.specs.declared.setup.Book.{Book}
@@ -11,17 +11,15 @@ use Rattle.qpu_word.specs.declared.fault.FaultKind.TheVariants.{Branch}
 use Rattle.qpu_word.specs.declared.state.Halt.TheVariants.{Going}
 use Rattle.qpu_word.specs.Words.{fields_of}
 use Rattle.qpu_word.specs.Processor.{ProcessorState}
-use Rattle.qpu_word.specs.Instruction.{is_link_point, branch_fails, flags_after, halt_after, moved_on, done, halted, then_after, outs_of, add_sent, mul_sent}
-use Rattle.qpu_tmu.specs.Looks.{LookupsState, queue_of}
+use Rattle.qpu_word.specs.Instruction.{is_link_point, branch_fails, moved_on, done, halted, then_after, outs_of, add_sent, mul_sent}
+use Rattle.qpu_tmu.specs.Looks.{LookupsState}
 use Rattle.qpu_shared.specs.declared.cause.Cause.{Cause}
 use Rattle.qpu_shared.specs.declared.starts.Starts.{Starts}
 use Rattle.qpu_shared.specs.declared.pending.Pending.{Pending}
 use Rattle.qpu_shared.specs.SharedState.{SharedState, nothing_pending}
-use Rattle.qpu_shared.specs.Instruction.{Outcome, Awaits, Faults, Done, outcome_of, outcome_under, first_cause, ins_of, after_reads, after_writes, shared_after, instruction_result, pending_of, pending_after, lookups_after}
+use Rattle.qpu_shared.specs.Instruction.{Done, outcome_of, outcome_under, first_cause, ins_of, after_reads, after_writes, shared_after, instruction_result, pending_of, pending_after, lookups_after}
 use Rattle.qpu_flow.specs.Code.{fields_at}
-use Rattle.qpu_hazard.specs.Demands.{sets_flags}
 use Rattle.qpu_hazard.specs.Paths.{IsClean, flags_of, carry_of, looks_after}
-use Rattle.qpu_hazard.specs.Holds.{WordHolds}
 use Rattle.qpu_shared.specs.declared.did.Did.{Did}
 use Rattle.qpu_shared.specs.declared.did.Did.TheVariants.{Stepped, Awaits as ItAwaits, Faulted as ItFaulted}
 use Rattle.qpu_shared.specs.Exec.{Does}

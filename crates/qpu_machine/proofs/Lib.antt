@@ -7,3 +7,5 @@ pub mod KeptLooks
 pub mod KeptOthers
 pub mod KeptStep
 pub mod WordLemmas
+pub mod SoundLemmas
+pub mod MovedLemmas

@@ -1,5 +1,5 @@
 -- What holds of the word at the place of a processor that stands on a path.
-use Rattle.std.proofs.Common.{◌≡◌, ◌≢◌, ◌<◌, ◌≤◌, ℕ, Bool, true, false, not, List, length, Option, Some, None, refl, sym, ap, ◌∙◌, arith}
+use Rattle.std.proofs.Common.{◌≡◌, ◌<◌, ℕ, Bool, true, false, not, List, length, refl, arith}
 use Rattle.std.specs.Prelude.{◌==◌, ◌&&◌, ◌||◌, slice_index}
 use Rattle.std.proofs.lemmas.Bool.Decides.{nat_tests}
 use Rattle.qpu_word.specs.declared.word.Fields.{Fields}
@@ -12,7 +12,6 @@ use Rattle.qpu_tmu.specs.Looks.{LookupsState}
 use Rattle.qpu_shared.specs.declared.pending.Pending.{Pending}
 use Rattle.qpu_shared.specs.Exec.{HasRoom}
 use Rattle.qpu_flow.specs.Code.{fields_at}
-use Rattle.qpu_hazard.specs.Demands.{looks_made}
 use Rattle.qpu_hazard.specs.Paths.{IsClean}
 use Rattle.qpu_hazard.specs.Holds.{WordHolds}
 use Rattle.qpu_hazard.proofs.HoldLemmas.{word_holds}

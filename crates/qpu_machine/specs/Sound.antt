@@ -1,5 +1,5 @@
 -- What a machine keeps in its type. This project's own.
-use Rattle.std.specs.Prelude.{◌≡◌, ◌<◌, ◌≤◌, ℕ, List, length, Option, Some, None, slice_index}
+use Rattle.std.specs.Prelude.{◌≡◌, ◌<◌, ◌≤◌, ℕ, length, Option, Some, None, slice_index}
 use Rattle.qpu_word.specs.declared.code.TheConstants.{PROCESSORS, LIMIT_MOST}
 use Rattle.qpu_word.specs.Processor.{ProcessorState}
 use Rattle.qpu_shared.specs.Instruction.{pending_of}
@@ -18,9 +18,10 @@ abbrev pub IsStartedAt : MachineState → ℕ → Option ProcessorState → Type
 IsStartedAt m q None = Unit {0}
 IsStartedAt m q (Some p) = IsStarted m q p
 
--- the limit is one of the machine's, something may be pending for each processor, and each is as it
--- should be
+-- the limit is one of the machine's, there is room for each processor and for what it has pending,
+-- and each processor is as it should be
 pub record IsSoundMachine (m : MachineState) : Type 0 where
   pub limit : m.limit ≤ LIMIT_MOST
   pub pending : length m.shared.pending ≡ PROCESSORS
+  pub processors : length m.processors ≡ PROCESSORS
   pub each : (q : ℕ) → q < PROCESSORS → IsStartedAt m q (processor_of m q)

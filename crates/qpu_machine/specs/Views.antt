@@ -1,5 +1,5 @@
 -- What contracts see of a machine: its state, and the starts that it was made of.
-use Rattle.std.specs.Prelude.{ℕ, List}
+use Rattle.std.specs.Prelude.{List}
 use Rattle.std.specs.Arc.{arc_value}
 use Rattle.qpu_machine.specs.declared.machine.Machine.TheInside.{Inside}
 use Rattle.qpu_machine.specs.declared.start.Start.{Start}

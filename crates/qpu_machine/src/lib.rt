@@ -8,6 +8,7 @@ mod laws;
 mod machine;
 mod start;
 mod stepping;
+mod taking;
 
 pub use actor::Actor;
 pub use conclusion::Ending;

@@ -1,15 +1,17 @@
 //! One step of each actor.
-ghost use Rattle.std.specs.Prelude.{◌≡◌, ◌≢◌, ◌<◌, ◌≤◌, ◌+◌, ℕ, length, slice_index, IsTrue};
+ghost use Rattle.std.specs.Prelude.{◌≡◌, ◌≢◌, ◌<◌, ◌≤◌, ◌+◌, ℕ, length, slice_index, slice_index_or, IsTrue, true, Some, []};
 ghost use Rattle.qpu_word.specs.declared.state.Halt.TheVariants.{Going};
 ghost use Rattle.qpu_word.specs.Words.{fields_of, is_local, IsInProfile};
 ghost use Rattle.qpu_word.specs.Instruction.{is_link_point, local_result};
 ghost use Rattle.qpu_shared.specs.SharedState.{SharedState};
 ghost use Rattle.qpu_shared.proofs.LocalLemmas.{local_outcome};
-ghost use Rattle.qpu_shared.specs.Instruction.{first_cause, instruction_result, outcome_under, pending_of};
+ghost use Rattle.qpu_shared.specs.Instruction.{first_cause, instruction_result, outcome_under, is_running, pending_of};
 ghost use Rattle.qpu_shared.specs.Exec.{Does};
 ghost use Rattle.qpu_machine.specs.Kept.{IsOnPath, KeepsPath};
+ghost use Rattle.qpu_machine.specs.Machine.{MachineState, processor_of, words_of};
+ghost use Rattle.qpu_machine.specs.Took.{TookWord};
 
-use qpu_hazard::Checked;
+use qpu_hazard::{Checked, Programs};
 use qpu_local::Processor;
 use qpu_shared::{Did, Shared};
 use qpu_word::Program;
@@ -65,4 +67,31 @@ fn keep_word(p: &mut Processor, program: &Checked, shared: &mut Shared, q: u32) 
 {
     let _words = program.words();
     do_word(p, program, shared, q)
+}
+
+/// The same, told as the step of a machine: whether the processor had one. Where it awaits nothing
+/// changes.
+pub(crate) fn take_word(p: &mut Processor, program: &Checked, shared: &mut Shared, q: u32) -> bool
+    requires q { q < 12 }
+    requires pending { q < length shared.old.pending }
+    requires number { p.old.q ≡ q }
+    requires going { p.old.halt ≡ Going }
+    requires executed { p.old.executed < 1000000 }
+    requires on_path { IsOnPath program.now p.old (pending_of shared.old q).looks }
+    ensures took { (m : MachineState) → processor_of m q ≡ Some p.old → is_running m.limit p.old ≡ true → words_of m q ≡ program.now → m.shared ≡ shared.old → TookWord result m q p.old p.new shared.new }
+    ensures keeps { KeepsPath program.now q p.old shared.old p.new shared.new }
+{
+    match keep_word(p, program, shared, q) {
+        Did::Awaits(_) => false,
+        Did::Stepped => true,
+        Did::Faulted(_) => true,
+    }
+}
+
+/// A program of the list.
+pub(crate) fn program_at(programs: &Programs, at: u32) -> &Checked
+    requires { at < length programs.now.list.items }
+    ensures { result.now ≡ slice_index_or programs.now.list.items at [] }
+{
+    &programs.list[at as usize]
 }

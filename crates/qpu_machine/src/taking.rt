@@ -1,0 +1,112 @@
+//! Steps of the machine.
+ghost use Rattle.std.specs.Prelude.{◌≡◌, ◌<◌, true, None, Some, IfSome, IsNone, is_some};
+ghost use Rattle.qpu_shared.specs.Instruction.{is_running};
+ghost use Rattle.qpu_machine.specs.declared.actor.Actor.TheVariants.{Exec, Load, Store, Fetch};
+ghost use Rattle.qpu_machine.specs.Machine.{processor_of, after_step};
+ghost use Rattle.qpu_machine.specs.Took.{Took};
+
+use crate::actor::Actor;
+use crate::machine::Machine;
+use crate::stepping::{program_at, take_word};
+use qpu_local::{Halt, Processor};
+use qpu_word::Program;
+
+impl Machine {
+    /// Processor q, where it is running: it goes on, and has executed less than the limit.
+    #[tactic(auto, unfolding(crate::specs::Machine::after_step, qpu_shared::specs::Instruction::instruction))]
+    fn running(&self, q: u32) -> Option<Processor>
+        ensures there { IfSome result (λ p. processor_of self.now.state q ≡ Some p) }
+        ensures runs { IfSome result (λ p. is_running self.now.state.limit p ≡ true) }
+        ensures low { IfSome result (λ p. q < 12) }
+        ensures none { IsNone result → after_step self.now.state (Exec q) ≡ None }
+    {
+        let processor = match self.processors.get(q as usize) {
+            Some(Some(processor)) => *processor,
+            _ => return None,
+        };
+        if processor.halt() != Halt::Going || processor.executed() >= self.limit {
+            return None;
+        }
+        Some(processor)
+    }
+
+    /// One instruction of processor q, where it has one.
+    fn step_exec(&mut self, q: u32) -> bool
+        ensures { Took result (after_step self.old.state (Exec q)) self.old self.new }
+    {
+        let Some(processor) = self.running(q) else {
+            return false;
+        };
+        let mut after = processor;
+        let program = program_at(&self.programs, self.program_of[q as usize]);
+        if !take_word(&mut after, program, &mut self.shared, q) {
+            return false;
+        }
+        self.processors[q as usize] = Some(after);
+        true
+    }
+
+    /// The move of processor q's pending load, where there is one.
+    #[tactic(auto, unfolding(crate::specs::Machine::after_step))]
+    fn step_load(&mut self, q: u32) -> bool
+        ensures { Took result (after_step self.old.state (Load q)) self.old self.new }
+    {
+        self.shared.move_load(q)
+    }
+
+    /// The move of processor q's pending store, where there is one.
+    #[tactic(auto, unfolding(crate::specs::Machine::after_step))]
+    fn step_store(&mut self, q: u32) -> bool
+        ensures { Took result (after_step self.old.state (Store q)) self.old self.new }
+    {
+        self.shared.move_store(q)
+    }
+
+    /// A look-up move of TMU unit u of processor q, where there is one.
+    #[tactic(auto, unfolding(crate::specs::Machine::after_step))]
+    fn step_fetch(&mut self, q: u32, u: u32) -> bool
+        ensures { Took result (after_step self.old.state (Fetch q u)) self.old self.new }
+    {
+        self.shared.fetch(q, u)
+    }
+
+    /// Takes one step of an actor. False exactly where it has none; then nothing changes.
+    pub fn step(&mut self, actor: Actor) -> bool
+        ensures { Took result (after_step self.old.state actor) self.old self.new }
+    {
+        match actor {
+            Actor::Exec(q) => self.step_exec(q),
+            Actor::Load(q) => self.step_load(q),
+            Actor::Store(q) => self.step_store(q),
+            Actor::Fetch(q, u) => self.step_fetch(q, u),
+        }
+    }
+
+    /// Whether processor q has an instruction to take: it is running, and its word doesn't await.
+    fn has_instruction(&self, q: u32) -> bool
+        ensures { result ≡ is_some (after_step self.now.state (Exec q)) }
+    {
+        let Some(processor) = self.running(q) else {
+            return false;
+        };
+        let program = program_at(&self.programs, self.program_of[q as usize]);
+        let _words = program.words();
+        let Some(word) = program.word(processor.place()) else {
+            unreachable!()
+        };
+        self.shared.awaits(q, word).is_none()
+    }
+
+    /// Whether an actor has a step.
+    #[tactic(auto, unfolding(crate::specs::Machine::after_step))]
+    pub fn enabled(&self, actor: Actor) -> bool
+        ensures { result ≡ is_some (after_step self.now.state actor) }
+    {
+        match actor {
+            Actor::Exec(q) => self.has_instruction(q),
+            Actor::Load(q) => self.shared.load_pending(q),
+            Actor::Store(q) => self.shared.store_pending(q),
+            Actor::Fetch(q, u) => self.shared.fetch_pending(q, u),
+        }
+    }
+}
