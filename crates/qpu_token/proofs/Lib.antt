@@ -1,0 +1,6 @@
+mod RunLemmas
+mod PieceLemmas
+pub mod PieceLaw
+pub mod PlaceLemmas
+pub mod ReadLemmas
+pub mod SpanLaw

@@ -1,0 +1,4 @@
+pub mod Words
+pub mod Pieces
+pub mod Tokens
+pub mod Reading
