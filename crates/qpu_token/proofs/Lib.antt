@@ -4,3 +4,5 @@ pub mod PieceLaw
 pub mod PlaceLemmas
 pub mod ReadLemmas
 pub mod SpanLaw
+mod CutLaw
+pub mod AnswerLaw

@@ -6,7 +6,8 @@ use Rattle.std.proofs.lemmas.Bool.Decides.{nat_tests}
 use Rattle.qpu_token.specs.declared.piece.Shape.TheVariants.{Blank, Comment, Name, Number, Sign, LineEnd}
 use Rattle.qpu_token.specs.Words.{is_letter, is_digit, is_name_byte, is_blank, is_sign_byte, is_hexadecimal, is_sign, is_line_end, is_one_blank}
 use Rattle.qpu_token.specs.Pieces.{comment_length, name_length, number_length, some_piece, short_piece, piece_of}
-use Rattle.qpu_token.specs.Tokens.{Begins, NothingBegins, PieceHere}
+use Rattle.qpu_token.specs.Tokens.{Begins, NothingBegins}
+use Rattle.qpu_token.specs.Reading.{PieceHere}
 use Rattle.qpu_token.proofs.PieceLemmas.{name_begins, number_begins, comment_begins, blank_begins, feed_begins, pair_ends, pair_signs, sign_begins}
 
 -- no first byte of a word but of signs and line ends

@@ -16,7 +16,9 @@ use Rattle.qpu_token.specs.declared.place.Place.{Place}
 use Rattle.qpu_token.specs.declared.here.Here.{Here}
 use Rattle.qpu_token.specs.declared.turn.Turn.TheVariants.{Told, TooLarge}
 use Rattle.qpu_token.specs.Words.{is_word, number_value}
-use Rattle.qpu_token.specs.Tokens.{place_at, dotted, Begins, NothingBegins, token_at, told, Cut, at_start, on, text_of, after_text, before_of, bound, fits, AllFit, InLine, IsBadByte, IsLineDone, IsTooLarge}
+use Rattle.qpu_token.specs.Places.{place_at}
+use Rattle.qpu_token.specs.Tokens.{dotted, Begins, NothingBegins, token_at, told, Cut, at_start, on, text_of, after_text, before_of, bound, fits, AllFit}
+use Rattle.qpu_token.specs.Faults.{InLine, IsBadByte, IsLineDone, IsTooLarge}
 use Rattle.qpu_token.specs.Reading.{place_behind, before_behind, after_piece, token_here, Moved, IsRead, turn_of, IsLarge, Turned, IsPastLarge}
 use Rattle.qpu_token.proofs.PlaceLemmas.{place_on}
 
@@ -108,7 +110,7 @@ AllFit-append text before [] ys p q = q
 AllFit-append text before (x ∷ xs) ys p q = (p.0, AllFit-append text (after_text before (text_of text x)) xs ys p.1 q)
 
 -- the end of a word is inside the text
-end_inside : (text : List ℕ) (after : Bool) (at n : ℕ) (shape : Shape) → at ≤ length text → Begins after shape n (drop at text) → at + n ≤ length text
+pub end_inside : (text : List ℕ) (after : Bool) (at n : ℕ) (shape : Shape) → at ≤ length text → Begins after shape n (drop at text) → at + n ≤ length text
 end_inside text after at n shape inside begins = omega (arith, begins.inside, length-drop at text)
 
 cut_more : (text : List ℕ) (here next : Here) (ts us : List Token) → Cut text ts here.at → Moved text here next us → Cut text (ts ++ us) next.at

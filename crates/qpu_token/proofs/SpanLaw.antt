@@ -5,7 +5,8 @@ use Rattle.qpu_token.specs.declared.token.TokenKind.TheVariants as kind
 use Rattle.qpu_token.specs.declared.token.Token.{Token}
 use Rattle.qpu_token.specs.declared.piece.Shape.{Shape}
 use Rattle.qpu_token.specs.declared.piece.Shape.TheVariants.{Blank, Comment, Name, Number, Sign, LineEnd}
-use Rattle.qpu_token.specs.Tokens.{place_at, token_at, told, Cut, at_start, on, AreTokens, AreSpans}
+use Rattle.qpu_token.specs.Places.{place_at}
+use Rattle.qpu_token.specs.Tokens.{token_at, told, Cut, at_start, on, AreTokens, AreSpans}
 
 wider : (from to end : ℕ) (ts : List Token) → to ≤ end → AreSpans from ts to → AreSpans from ts end
 wider from to end [] more h = omega arith

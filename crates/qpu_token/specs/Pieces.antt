@@ -1,5 +1,5 @@
 -- The longest word that begins a text, told from its first bytes. That it is one, and that no longer
--- one is there, is proved (`piece_begins`).
+-- one is there, is proved (`piece_here` of proofs/PieceLaw).
 use Rattle.std.specs.Prelude.{ℕ, ◌+◌, ◌==◌, ◌&&◌, ◌||◌, Bool, nat_eq, nat_lt, List, [], ◌∷◌, Option, Some, None, codes, slice_index, if◌then◌else◌}
 use Rattle.std.specs.List.{prefix_len, starts_with}
 use Rattle.qpu_token.specs.declared.piece.Shape.{Shape}

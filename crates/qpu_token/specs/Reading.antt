@@ -1,11 +1,12 @@
--- How far a text is read. That this leads to the tokens of the text, and to its first fault, is proved
--- of it.
-use Rattle.std.specs.Prelude.{◌≡◌, ℕ, ◌+◌, ◌≤◌, ◌==◌, true, false, nat_lt, List, [], ◌∷◌, ◌++◌, length, drop, if◌then◌else◌}
+-- How the text is read, word by word. That this leads to the tokens of the text, or to its first fault,
+-- is proved of it.
+use Rattle.std.specs.Prelude.{◌≡◌, ℕ, ◌+◌, ◌≤◌, ◌==◌, Bool, true, false, nat_lt, List, [], ◌∷◌, ◌++◌, length, drop, Option, Some, None, if◌then◌else◌}
 use Rattle.qpu_token.specs.declared.token.TokenKind.{TokenKind}
 use Rattle.qpu_token.specs.declared.token.TokenKind.TheVariants as kind
 use Rattle.qpu_token.specs.declared.token.Token.{Token}
 use Rattle.qpu_token.specs.declared.piece.Shape.{Shape}
 use Rattle.qpu_token.specs.declared.piece.Shape.TheVariants.{Blank, Comment, Name, Number, Sign, LineEnd}
+use Rattle.qpu_token.specs.declared.piece.Piece.{Piece}
 use Rattle.qpu_token.specs.declared.before.Before.{Before}
 use Rattle.qpu_token.specs.declared.before.Before.TheVariants.{Other}
 use Rattle.qpu_token.specs.declared.place.Place.{Place}
@@ -13,7 +14,14 @@ use Rattle.qpu_token.specs.declared.here.Here.{Here}
 use Rattle.qpu_token.specs.declared.turn.Turn.{Turn}
 use Rattle.qpu_token.specs.declared.turn.Turn.TheVariants.{Nothing, Passed, Told, TooLarge}
 use Rattle.qpu_token.specs.Words.{number_value}
-use Rattle.qpu_token.specs.Tokens.{place_at, dotted, Begins, NothingBegins, told, Cut, after_text, before_of, bound, fits, AllFit, InLine}
+use Rattle.qpu_token.specs.Places.{place_at}
+use Rattle.qpu_token.specs.Tokens.{dotted, Begins, NothingBegins, told, Cut, after_text, before_of, bound, fits, AllFit}
+use Rattle.qpu_token.specs.Faults.{InLine}
+
+-- what begins here: a word, or nothing
+abbrev pub PieceHere : Bool → List ℕ → Option Piece → Type 0
+PieceHere after_dot rest None = NothingBegins after_dot rest
+PieceHere after_dot rest (Some piece) = Begins after_dot piece.shape piece.length rest
 
 -- behind a word
 

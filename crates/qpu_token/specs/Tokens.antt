@@ -1,34 +1,16 @@
--- What the tokens of a text are, and which fault of its tokens is the first. This project's own.
-use Rattle.std.specs.Prelude.{◌≡◌, ℕ, ◌+◌, ◌-◌, ◌^◌, ◌<◌, ◌≤◌, ◌==◌, ◌&&◌, ◌⊎◌, Bool, true, false, nat_eq, nat_lt, List, [], ◌∷◌, ◌++◌, length, take, drop, fold, All, Option, Some, None, codes, slice_index, slice_range, if◌then◌else◌}
+-- What the tokens of a text are: words that follow one another, each as long as can be, of which blanks
+-- and comments are left out. This project's own.
+use Rattle.std.specs.Prelude.{◌≡◌, ℕ, ◌+◌, ◌-◌, ◌^◌, ◌<◌, ◌≤◌, ◌==◌, ◌&&◌, Bool, true, false, nat_eq, nat_lt, List, [], ◌∷◌, ◌++◌, length, take, drop, fold, codes, slice_index, slice_range, if◌then◌else◌}
 use Rattle.std.specs.Cmp.Lexicographic.{pointwise}
-use Rattle.qpu_token.specs.declared.fault.AsmKind.{AsmKind}
-use Rattle.qpu_token.specs.declared.fault.AsmKind.TheVariants.{BadByte, NumberTooLarge, Memory}
-use Rattle.qpu_token.specs.declared.fault.AsmFault.{AsmFault}
 use Rattle.qpu_token.specs.declared.token.TokenKind.{TokenKind}
 use Rattle.qpu_token.specs.declared.token.TokenKind.TheVariants as kind
 use Rattle.qpu_token.specs.declared.token.Token.{Token}
 use Rattle.qpu_token.specs.declared.piece.Shape.{Shape}
 use Rattle.qpu_token.specs.declared.piece.Shape.TheVariants.{Blank, Comment, Name, Number, Sign, LineEnd}
-use Rattle.qpu_token.specs.declared.piece.Piece.{Piece}
 use Rattle.qpu_token.specs.declared.before.Before.{Before}
 use Rattle.qpu_token.specs.declared.before.Before.TheVariants.{Other, Dot, DotWord}
-use Rattle.qpu_token.specs.declared.place.Place.{Place}
 use Rattle.qpu_token.specs.Words.{is_word, number_value}
-
--- places
-
-abbrev pub first_place : Place
-first_place = record { line = 1; column = 1 }
-
--- a line feed is followed by the next line; each other byte has one column
-abbrev pub next_place : Place → ℕ → Place
-next_place place byte =
-    if byte == 10 then record { line = place.line + 1; column = 1 }
-    else record { line = place.line; column = place.column + 1 }
-
--- the line and column of a byte of the text
-unfoldable pub place_at : List ℕ → ℕ → Place
-place_at text at = fold next_place first_place (take at text)
+use Rattle.qpu_token.specs.Places.{place_at}
 
 -- words in the text
 
@@ -46,11 +28,6 @@ pub record Begins (after_dot : Bool) (shape : Shape) (n : ℕ) (rest : List ℕ)
 abbrev pub NothingBegins : Bool → List ℕ → Type 0
 NothingBegins after_dot rest =
     (shape : Shape) (m : ℕ) → m ≤ length rest → is_word after_dot shape (take m rest) ≡ false
-
--- what begins here: a word, or nothing
-abbrev pub PieceHere : Bool → List ℕ → Option Piece → Type 0
-PieceHere after_dot rest None = NothingBegins after_dot rest
-PieceHere after_dot rest (Some piece) = Begins after_dot piece.shape piece.length rest
 
 -- tokens
 
@@ -136,47 +113,3 @@ pub record AreTokens (text : List ℕ) (tokens : List Token) : Type 0 where
 abbrev pub AreSpans : ℕ → List Token → ℕ → Type 0
 AreSpans from [] to = from ≤ to
 AreSpans from (token ∷ tokens) to = (from ≤ token.from) × (token.from ≤ token.to) × AreSpans token.to tokens to
-
--- faults
-
-abbrev pub InLine : ℕ → List Token → Type 0
-InLine line tokens = All (λ token. token.line ≡ line) tokens
-
--- no word begins at a place, and every number of the lines before it fits
-pub record IsBadByte (text : List ℕ) (line column : ℕ) : Type 0 where
-  pub front : List Token
-  pub back : List Token
-  pub at : ℕ
-  pub cut : Cut text (front ++ back) at
-  pub fit : AllFit text Other front
-  pub same_line : InLine line back
-  pub some : at < length text
-  pub nothing : NothingBegins (dotted text at) (drop at text)
-  pub place : place_at text at ≡ record { line = line; column = column }
-
--- the text's end, or that of a line
-abbrev pub IsLineDone : List ℕ → ℕ → Type 0
-IsLineDone text at = (at ≡ length text) ⊎ ((n : ℕ) × Begins (dotted text at) LineEnd n (drop at text))
-
--- a number doesn't fit, all before it do, and its line has a word at every place
-pub record IsTooLarge (text : List ℕ) (line column : ℕ) : Type 0 where
-  pub front : List Token
-  pub token : Token
-  pub back : List Token
-  pub at : ℕ
-  pub cut : Cut text (front ++ token ∷ back) at
-  pub fit : AllFit text Other front
-  pub large : fits (before_of text Other front) token.kind ≡ false
-  pub same_line : InLine line (token ∷ back)
-  pub done : IsLineDone text at
-  pub column_is : token.column ≡ column
-
--- the first fault of a text's tokens; want of memory, which is free, has no place
-abbrev pub FaultOf : List ℕ → AsmKind → ℕ → ℕ → Type 0
-FaultOf text BadByte line column = IsBadByte text line column
-FaultOf text NumberTooLarge line column = IsTooLarge text line column
-FaultOf text Memory line column = (line ≡ 0) × (column ≡ 0)
-FaultOf text _ line column = ⊥
-
-abbrev pub IsFirstFault : List ℕ → AsmFault → Type 0
-IsFirstFault text fault = FaultOf text fault.kind fault.line fault.column

@@ -1,5 +1,4 @@
 ghost use Rattle.std.specs.Prelude.{◌≡◌, ◌+◌, ◌^◌, ◌<◌, length};
-ghost use Rattle.qpu_token.specs.Reading.{after_piece, token_here};
 
 use crate::before::Before;
 use crate::piece::Shape;
@@ -8,53 +7,57 @@ use crate::token::{Token, TokenKind};
 
 /// Up to where a text is read.
 #[derive(Clone, Copy, Debug, PartialEq, Eq)]
-pub struct Here {
+pub(crate) struct Here {
     /// The next byte.
-    pub at: usize,
+    pub(crate) at: usize,
     /// Its place.
-    pub place: Place,
+    pub(crate) place: Place,
     /// What stands before it.
-    pub before: Before,
+    pub(crate) before: Before,
 }
 
-/// The begin of a text.
-pub(crate) const START: Here = Here {
-    at: 0,
-    place: Place { line: 1, column: 1 },
-    before: Before::Other,
-};
+impl Here {
+    ghost use Rattle.qpu_token.specs.Reading.{after_piece, token_here};
 
-/// Behind a word that begins here.
-pub(crate) fn behind(here: Here, shape: Shape, word: &[u8]) -> Here
-    requires end { here.at + length word.now < 2 ^ 32 }
-    requires line { here.place.line + 1 < 2 ^ 32 }
-    requires column { here.place.column + length word.now < 2 ^ 32 }
-    ensures { result ≡ after_piece here shape word.now }
-{
-    let place = match shape {
-        Shape::LineEnd => here.place.next_line(),
-        _ => here.place.further(word.len()),
+    /// The begin of a text.
+    pub(crate) const START: Here = Here {
+        at: 0,
+        place: Place { line: 1, column: 1 },
+        before: Before::Other,
     };
-    let before = match shape {
-        Shape::Blank | Shape::Comment => here.before,
-        _ => here.before.after(word),
-    };
-    Here {
-        at: here.at + word.len(),
-        place,
-        before,
+
+    /// Behind a word that begins here.
+    pub(crate) fn behind(self, shape: Shape, word: &[u8]) -> Here
+        requires end { self.at + length word.now < 2 ^ 32 }
+        requires line { self.place.line + 1 < 2 ^ 32 }
+        requires column { self.place.column + length word.now < 2 ^ 32 }
+        ensures { result ≡ after_piece self shape word.now }
+    {
+        let place = match shape {
+            Shape::LineEnd => self.place.next_line(),
+            _ => self.place.further(word.len()),
+        };
+        let before = match shape {
+            Shape::Blank | Shape::Comment => self.before,
+            _ => self.before.after(word),
+        };
+        Here {
+            at: self.at + word.len(),
+            place,
+            before,
+        }
     }
-}
 
-/// A token from here up to another byte.
-pub(crate) fn token_here(here: Here, kind: TokenKind, to: usize) -> Token
-    ensures { result ≡ token_here here kind to }
-{
-    Token {
-        kind,
-        from: here.at,
-        to,
-        line: here.place.line,
-        column: here.place.column,
+    /// A token from here up to another byte.
+    pub(crate) fn token(self, kind: TokenKind, to: usize) -> Token
+        ensures { result ≡ token_here self kind to }
+    {
+        Token {
+            kind,
+            from: self.at,
+            to,
+            line: self.place.line,
+            column: self.place.column,
+        }
     }
 }

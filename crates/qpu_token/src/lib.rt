@@ -8,6 +8,7 @@ mod before;
 mod bytes;
 mod fault;
 mod here;
+mod laws;
 mod number;
 mod piece;
 mod place;
@@ -16,6 +17,7 @@ mod token;
 mod turn;
 
 pub use fault::{AsmFault, AsmKind};
+pub use laws::one_answer;
 pub use reading::tokens;
 pub use token::{Token, TokenKind};
 

@@ -1,12 +1,13 @@
 ghost use Rattle.std.specs.Prelude.{◌≡◌, ◌<◌, ◌≤◌, length, drop};
 ghost use Rattle.qpu_token.specs.Pieces.{name_length, digits_length, hex_length, comment_length, number_length, short_piece, piece_of};
-ghost use Rattle.qpu_token.specs.Tokens.{dotted, PieceHere};
+ghost use Rattle.qpu_token.specs.Tokens.{dotted};
+ghost use Rattle.qpu_token.specs.Reading.{PieceHere};
 
 use crate::bytes::{is_blank, is_digit, is_hex_digit, is_letter, is_name_byte, is_sign_byte};
 
 /// What a piece of the text is.
 #[derive(Clone, Copy, Debug, PartialEq, Eq)]
-pub enum Shape {
+pub(crate) enum Shape {
     /// A space or tab.
     Blank,
     /// From `#` to the end of the line.

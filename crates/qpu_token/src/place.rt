@@ -4,11 +4,11 @@ use crate::fault::{AsmFault, AsmKind};
 
 /// A place in the text.
 #[derive(Clone, Copy, Debug, PartialEq, Eq)]
-pub struct Place {
+pub(crate) struct Place {
     /// The line, from 1.
-    pub line: u32,
+    pub(crate) line: u32,
     /// The column in the line, in bytes and from 1.
-    pub column: u32,
+    pub(crate) column: u32,
 }
 
 impl Place {

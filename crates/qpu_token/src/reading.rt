@@ -1,9 +1,11 @@
 ghost use Rattle.std.specs.Prelude.{◌≡◌, ◌+◌, ◌^◌, ◌<◌, ◌≤◌, ◌++◌, length, IfOk, IfErr, OnOk};
-ghost use Rattle.qpu_token.specs.Tokens.{place_at, AreTokens, AreSpans, IsFirstFault};
+ghost use Rattle.qpu_token.specs.Places.{place_at};
+ghost use Rattle.qpu_token.specs.Tokens.{AreTokens, AreSpans};
+ghost use Rattle.qpu_token.specs.Faults.{IsFirstFault};
 ghost use Rattle.qpu_token.specs.Reading.{IsRead, IsPastLarge, end_here};
 
 use crate::fault::{AsmFault, AsmKind};
-use crate::here::{Here, START, token_here};
+use crate::here::Here;
 use crate::piece::{Shape, piece_at};
 use crate::place::Place;
 use crate::token::{Token, TokenKind};
@@ -28,7 +30,7 @@ pub fn tokens(alloc: Global, text: &str) -> Result<Vec<Token>, AsmFault>
 {
     let text = text.as_bytes();
     let mut tokens = Vec::new(alloc);
-    let mut here = START;
+    let mut here = Here::START;
     while here.at < text.len() {
         here = read_on(text, here, &mut tokens)?;
     }
@@ -87,7 +89,7 @@ fn close(here: Here, tokens: &mut Vec<Token>) -> Result<(), AsmFault>
     if here.place.column == 1 {
         return Ok(());
     }
-    match tokens.push(token_here(here, TokenKind::LineEnd, here.at)) {
+    match tokens.push(here.token(TokenKind::LineEnd, here.at)) {
         Ok(()) => Ok(()),
         Err(_) => Err(NO_MEMORY),
     }

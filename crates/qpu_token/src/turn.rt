@@ -1,15 +1,15 @@
 ghost use Rattle.std.specs.Prelude.{◌≡◌, ◌+◌, ◌^◌, ◌<◌, ◌≤◌, length};
-ghost use Rattle.qpu_token.specs.Tokens.{place_at};
+ghost use Rattle.qpu_token.specs.Places.{place_at};
 ghost use Rattle.qpu_token.specs.Reading.{turn_of, Turned};
 
-use crate::here::{Here, behind, token_here};
+use crate::here::Here;
 use crate::number::number_of;
 use crate::piece::{Shape, piece_at};
 use crate::token::{Token, TokenKind};
 
 /// What reading on by one word comes to.
 #[derive(Clone, Copy, Debug, PartialEq, Eq)]
-pub enum Turn {
+pub(crate) enum Turn {
     /// No word begins here.
     Nothing,
     /// A blank or comment.
@@ -27,14 +27,14 @@ fn turn_of(here: Here, shape: Shape, word: &[u8]) -> Turn
     requires column { here.place.column + length word.now < 2 ^ 32 }
     ensures { result ≡ turn_of here shape word.now }
 {
-    let next = behind(here, shape, word);
+    let next = here.behind(shape, word);
     match shape {
         Shape::Blank | Shape::Comment => Turn::Passed(next),
-        Shape::Name => Turn::Told(token_here(here, TokenKind::Name, next.at), next),
-        Shape::Sign => Turn::Told(token_here(here, TokenKind::Punct, next.at), next),
-        Shape::LineEnd => Turn::Told(token_here(here, TokenKind::LineEnd, next.at), next),
+        Shape::Name => Turn::Told(here.token(TokenKind::Name, next.at), next),
+        Shape::Sign => Turn::Told(here.token(TokenKind::Punct, next.at), next),
+        Shape::LineEnd => Turn::Told(here.token(TokenKind::LineEnd, next.at), next),
         Shape::Number => match number_of(word, here.before) {
-            Some(n) => Turn::Told(token_here(here, TokenKind::Number(n), next.at), next),
+            Some(n) => Turn::Told(here.token(TokenKind::Number(n), next.at), next),
             None => Turn::TooLarge(next),
         },
     }

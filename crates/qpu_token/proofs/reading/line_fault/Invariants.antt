@@ -1,5 +1,5 @@
 use Rattle.std.proofs.Common.{◌≡◌, ◌-◌, length}
-use Rattle.qpu_token.specs.Tokens.{place_at}
+use Rattle.qpu_token.specs.Places.{place_at}
 use Rattle.qpu_token.specs.Reading.{IsPastLarge}
 use Rattle.qpu_token.proofs.reading.line_fault.Given as goal
 
