@@ -19,7 +19,7 @@ mod turn;
 pub use fault::{AsmFault, AsmKind};
 pub use laws::one_answer;
 pub use reading::tokens;
-pub use token::{Token, TokenKind};
+pub use token::{MOST_BYTES, Token, TokenKind};
 
 #[cfg(test)]
 mod tests;

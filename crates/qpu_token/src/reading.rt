@@ -8,7 +8,7 @@ use crate::fault::{AsmFault, AsmKind};
 use crate::here::Here;
 use crate::piece::{Shape, piece_at};
 use crate::place::Place;
-use crate::token::{Token, TokenKind};
+use crate::token::{MOST_BYTES, Token, TokenKind};
 use crate::turn::{Turn, take_turn};
 use std::alloc::Global;
 
@@ -19,11 +19,11 @@ const NO_MEMORY: AsmFault = AsmFault {
     column: 0,
 };
 
-/// The tokens of a text of at most 268,435,456 bytes. The one error beside want of memory is the
+/// The tokens of a text of at most `MOST_BYTES` bytes. The one error beside want of memory is the
 /// first fault: a byte that begins no token, or a number that is too large; in one line the former.
 #[tactic(auto, using(crate::proofs::SpanLaw::spans_of))]
 pub fn tokens(alloc: Global, text: &str) -> Result<Vec<Token>, AsmFault>
-    requires { length text.now ≤ 268435456 }
+    requires { length text.now ≤ MOST_BYTES }
     ensures ok { IfOk result (λ tokens. AreTokens text.now tokens.items) }
     ensures spans { IfOk result (λ tokens. AreSpans 0 tokens.items (length text.now)) }
     ensures err { IfErr result (λ fault. IsFirstFault text.now fault) }
@@ -40,7 +40,7 @@ pub fn tokens(alloc: Global, text: &str) -> Result<Vec<Token>, AsmFault>
 
 /// Reads on by one word, and puts the token that it is behind the others.
 fn read_on(text: &[u8], here: Here, tokens: &mut Vec<Token>) -> Result<Here, AsmFault>
-    requires most { length text.now ≤ 268435456 }
+    requires most { length text.now ≤ MOST_BYTES }
     requires inside { here.at < length text.now }
     requires read { IsRead text.now tokens.old.items here }
     ensures ok { IfOk result (λ next. IsRead text.now tokens.new.items next) }
@@ -61,7 +61,7 @@ fn read_on(text: &[u8], here: Here, tokens: &mut Vec<Token>) -> Result<Here, Asm
 /// The fault of a line in which a number is too large, read up to here: that of the number, unless a
 /// byte behind it begins no token.
 fn line_fault(text: &[u8], large: Place, here: Here) -> AsmFault
-    requires most { length text.now ≤ 268435456 }
+    requires most { length text.now ≤ MOST_BYTES }
     requires past { IsPastLarge text.now large here.at }
     requires place { here.place ≡ place_at text.now here.at }
     ensures { IsFirstFault text.now result }

@@ -1,3 +1,6 @@
+/// Bytes of the longest text.
+pub const MOST_BYTES: usize = 268_435_456;
+
 /// What a token is.
 #[derive(Clone, Copy, Debug, PartialEq, Eq)]
 pub enum TokenKind {

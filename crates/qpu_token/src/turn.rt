@@ -5,7 +5,7 @@ ghost use Rattle.qpu_token.specs.Reading.{turn_of, Turned};
 use crate::here::Here;
 use crate::number::number_of;
 use crate::piece::{Shape, piece_at};
-use crate::token::{Token, TokenKind};
+use crate::token::{MOST_BYTES, Token, TokenKind};
 
 /// What reading on by one word comes to.
 #[derive(Clone, Copy, Debug, PartialEq, Eq)]
@@ -42,7 +42,7 @@ fn turn_of(here: Here, shape: Shape, word: &[u8]) -> Turn
 
 /// Reads on by one word.
 pub(crate) fn take_turn(text: &[u8], here: Here) -> Turn
-    requires most { length text.now ≤ 268435456 }
+    requires most { length text.now ≤ MOST_BYTES }
     requires inside { here.at < length text.now }
     requires place { here.place ≡ place_at text.now here.at }
     ensures { Turned text.now here result }
