@@ -1,0 +1,7 @@
+pub mod Words
+pub mod Pieces
+pub mod Places
+pub mod Tokens
+pub mod Faults
+pub mod Reading
+pub mod OneAnswer
