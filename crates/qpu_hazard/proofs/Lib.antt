@@ -9,3 +9,4 @@ pub mod CompleteLemmas
 pub mod StandLemmas
 pub mod HoldLemmas
 pub mod ProcessorLemmas
+pub mod MaskLemmas
