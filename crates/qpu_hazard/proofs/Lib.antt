@@ -8,3 +8,5 @@ pub mod SeenLemmas
 pub mod CompleteLemmas
 pub mod StandLemmas
 pub mod HoldLemmas
+pub mod ProcessorLemmas
+pub mod MaskLemmas

@@ -101,11 +101,11 @@ after_last_branch code begun a branches = ap (λ (b : Bool). if b then after_bra
 after_last_end : (code : List ℕ) (begun a : ℕ) → is_branch (fields_at code begun) ≡ false → after_last_slot code begun a ≡ nowhere
 after_last_end code begun a branches = ap (λ (b : Bool). if b then after_branch code begun a else nowhere) branches
 
-no_branch : (f : Fields) → is_program_end f ≡ true → is_branch f ≡ false
+pub no_branch : (f : Fields) → is_program_end f ≡ true → is_branch f ≡ false
 no_branch f ends = grind (arith, nat_tests)
 
 -- slots after each kind of word
-slots_branch : (code : List ℕ) (slots : Option Slots) (a : ℕ) → is_branch (fields_at code a) ≡ true → slots_after code slots a ≡ Some (record { place = a; left = 3 })
+pub slots_branch : (code : List ℕ) (slots : Option Slots) (a : ℕ) → is_branch (fields_at code a) ≡ true → slots_after code slots a ≡ Some (record { place = a; left = 3 })
 slots_branch code slots a branches =
     ap (λ (b : Bool). if b then Some (record { place = a; left = 3 })
     else (if is_program_end (fields_at code a) then Some (record { place = a; left = 2 }) else one_less slots)) branches
@@ -116,7 +116,7 @@ slots_end code slots a ends =
     else (if is_program_end (fields_at code a) then Some (record { place = a; left = 2 }) else one_less slots)) (no_branch (fields_at code a) ends)
     ∙ ap (λ (b : Bool). if b then Some (record { place = a; left = 2 }) else one_less slots) ends
 
-slots_plain : (code : List ℕ) (slots : Option Slots) (a : ℕ) → is_branch (fields_at code a) ≡ false → is_program_end (fields_at code a) ≡ false → slots_after code slots a ≡ one_less slots
+pub slots_plain : (code : List ℕ) (slots : Option Slots) (a : ℕ) → is_branch (fields_at code a) ≡ false → is_program_end (fields_at code a) ≡ false → slots_after code slots a ≡ one_less slots
 slots_plain code slots a branches ends =
     ap (λ (b : Bool). if b then Some (record { place = a; left = 3 })
     else (if is_program_end (fields_at code a) then Some (record { place = a; left = 2 }) else one_less slots)) branches
@@ -125,7 +125,7 @@ slots_plain code slots a branches ends =
 less_none : (s : Slots) → s.left ≡ 0 → one_less (Some s) ≡ None
 less_none s none = ap (λ (b : Bool). if b then None else Some (record s { left = s.left - 1 })) (is_zero s.left none)
 
-less_some : (s : Slots) → 0 < s.left → one_less (Some s) ≡ Some (record s { left = s.left - 1 })
+pub less_some : (s : Slots) → 0 < s.left → one_less (Some s) ≡ Some (record s { left = s.left - 1 })
 less_some s some = ap (λ (b : Bool). if b then None else Some (record s { left = s.left - 1 })) (not_zero s.left some)
 
 -- a branch

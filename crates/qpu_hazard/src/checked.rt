@@ -7,6 +7,7 @@ ghost use Rattle.qpu_hazard.specs.Paths.{IsClean};
 ghost use Rattle.qpu_hazard.specs.Refusal.{NoneRefusable};
 ghost use Rattle.qpu_hazard.specs.Faults.{IsCheckFault};
 
+use crate::rules::H10;
 use crate::search::explore;
 use qpu_flow::{Flow, FlowFault};
 use qpu_word::{Program, Word, WordFault};
@@ -69,7 +70,7 @@ pub fn check(alloc: Global, words: &[Word]) -> Result<Checked, CheckFault>
     };
     if flow.len() == 0 {
         return Err(CheckFault::Hazard {
-            rule: 10,
+            rule: H10,
             at: 0,
             before: 0,
         });

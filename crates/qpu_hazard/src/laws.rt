@@ -1,13 +1,19 @@
 //! Laws of paths that machines lean on. Each is a function without a body; its clause is the law.
-ghost use Rattle.std.specs.Prelude.{◌≡◌, ℕ, List, [], ◌∷◌, Bool, IsTrue};
+ghost use Rattle.std.specs.Prelude.{◌≡◌, ℕ, List, [], ◌∷◌, Bool, false, ◌||◌, is_some, IsTrue};
 ghost use Rattle.qpu_flow.specs.declared.control.Control.{Control};
 ghost use Rattle.qpu_flow.specs.declared.control.Rest.TheVariants.{Straight};
 ghost use Rattle.qpu_flow.specs.Control.{follow};
-ghost use Rattle.qpu_hazard.specs.Rules.{rules_broken};
-ghost use Rattle.qpu_hazard.specs.Paths.{IsPath, IsClean, broken, follows};
+ghost use Rattle.qpu_flow.specs.Code.{fields_at};
+ghost use Rattle.qpu_word.specs.Processor.{ProcessorState};
+ghost use Rattle.qpu_word.specs.declared.word.Fields.{Fields};
+ghost use Rattle.qpu_word.specs.declared.traffic.Ins.{Ins};
+ghost use Rattle.qpu_hazard.specs.Demands.{sets_flags};
+ghost use Rattle.qpu_word.specs.declared.state.Rest.TheVariants.{Straight as RunsOn};
+ghost use Rattle.qpu_word.specs.Instruction.{flags_after, branch_fails, place_after, rest_after, halt_after, is_link_point};
+ghost use Rattle.qpu_hazard.specs.Paths.{IsPath, IsClean, broken, carry_after, follows};
 ghost use Rattle.qpu_hazard.specs.Trails.{trail, advance, follows_from, broken_from};
 ghost use Rattle.qpu_hazard.specs.Refusal.{NoneRefusable};
-ghost use Rattle.qpu_hazard.specs.Standing.{Stands, Goes};
+ghost use Rattle.qpu_hazard.specs.Standing.{Stands, Goes, ProcessorStands, ProcessorGoes};
 ghost use Rattle.qpu_hazard.specs.Holds.{WordHolds};
 
 /// Which words may follow a path depends on its trail alone.
@@ -48,4 +54,21 @@ pub fn stays_on_a_path()
 /// What holds of a word that may follow a path of a clean program.
 pub fn the_next_word_holds()
     ensures { (code t : List ℕ) (a : ℕ) → IsClean code → IsPath code t → IsTrue (follows code t a) → WordHolds code t a }
+{}
+
+/// A processor of a clean program that hasn't run stands on a path.
+pub fn processors_open_on_a_path()
+    ensures { (code : List ℕ) → IsClean code → ProcessorStands code [] 0 RunsOn }
+{}
+
+/// A processor of a clean program that stands on a path executes a word of a path, where that word
+/// is no branch that faults. While it goes on it stands on the path afterwards.
+pub fn processors_stay_on_a_path()
+    ensures { (code t : List ℕ) (p : ProcessorState) → IsClean code → IsPath code t → ProcessorStands code t p.place p.rest → branch_fails (is_link_point code) (fields_at code p.place) p ≡ false → IsPath code (p.place ∷ t) × ProcessorGoes code (p.place ∷ t) (place_after (fields_at code p.place) p) (rest_after (fields_at code p.place) p) (halt_after (fields_at code p.place) p) }
+{}
+
+/// The masks of a processor are defined where its path defines them, and none else.
+pub fn masks_are_defined_by_the_path()
+    ensures zn { (f : Fields) (p : ProcessorState) (ins : Ins) → is_some (flags_after f p ins).zn ≡ (sets_flags f || is_some p.flags.zn) }
+    ensures carry { (f : Fields) (p : ProcessorState) (ins : Ins) → is_some (flags_after f p ins).c ≡ carry_after f (is_some p.flags.c) }
 {}

@@ -35,7 +35,7 @@ const H8: u32 = 8;
 
 const H9: u32 = 9;
 
-const H10: u32 = 10;
+pub(crate) const H10: u32 = 10;
 
 const H11: u32 = 11;
 

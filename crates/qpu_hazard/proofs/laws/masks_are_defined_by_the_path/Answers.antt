@@ -1,0 +1,8 @@
+use Rattle.qpu_hazard.proofs.MaskLemmas.{zn_defined, carry_defined}
+use Rattle.qpu_hazard.proofs.laws.masks_are_defined_by_the_path.Goals as goal
+
+pub returns-clause-zn : goal.returns-clause-zn
+returns-clause-zn c = zn_defined
+
+pub returns-clause-carry : goal.returns-clause-carry
+returns-clause-carry c = carry_defined
