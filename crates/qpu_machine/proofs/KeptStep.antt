@@ -1,6 +1,7 @@
 -- An instruction of a processor of a clean program keeps that it stands on a path.
 use Rattle.std.proofs.Common.{◌≡◌, ◌<◌, ◌+◌, ℕ, Bool, true, false, List, ◌∷◌, length, Option, Some, None, Result, Ok, Err, refl, subst, ap, ◌∙◌, arith}
-use Rattle.std.specs.Prelude.{slice_index}
+use Rattle.std.specs.Prelude.{slice_index, ◌||◌}
+use Rattle.qpu_hazard.specs.Demands.{sets_flags}
 use Rattle.std.proofs.lemmas.List.{get_or-set_same}
 use Rattle.qpu_word.specs.declared.word.Fields.{Fields}
 use Rattle.qpu_word.specs.declared.setup.Book.{Book}
@@ -11,7 +12,7 @@ use Rattle.qpu_word.specs.declared.fault.FaultKind.TheVariants.{Branch}
 use Rattle.qpu_word.specs.declared.state.Halt.TheVariants.{Going}
 use Rattle.qpu_word.specs.Words.{fields_of}
 use Rattle.qpu_word.specs.Processor.{ProcessorState}
-use Rattle.qpu_word.specs.Instruction.{is_link_point, branch_fails, moved_on, done, halted, then_after, outs_of, add_sent, mul_sent}
+use Rattle.qpu_word.specs.Instruction.{is_link_point, branch_fails, place_after, rest_after, moved_on, done, halted, then_after, outs_of, add_sent, mul_sent}
 use Rattle.qpu_tmu.specs.Looks.{LookupsState}
 use Rattle.qpu_shared.specs.declared.cause.Cause.{Cause}
 use Rattle.qpu_shared.specs.declared.starts.Starts.{Starts}
@@ -19,13 +20,14 @@ use Rattle.qpu_shared.specs.declared.pending.Pending.{Pending}
 use Rattle.qpu_shared.specs.SharedState.{SharedState, nothing_pending}
 use Rattle.qpu_shared.specs.Instruction.{Done, outcome_of, outcome_under, first_cause, ins_of, after_reads, after_writes, shared_after, instruction_result, pending_of, pending_after, lookups_after}
 use Rattle.qpu_flow.specs.Code.{fields_at}
-use Rattle.qpu_hazard.specs.Paths.{IsClean, flags_of, carry_of, looks_after}
+use Rattle.qpu_hazard.specs.Paths.{IsClean, carry_after, looks_after}
+use Rattle.qpu_hazard.specs.Standing.{ProcessorGoes}
 use Rattle.qpu_shared.specs.declared.did.Did.{Did}
 use Rattle.qpu_shared.specs.declared.did.Did.TheVariants.{Stepped, Awaits as ItAwaits, Faulted as ItFaulted}
 use Rattle.qpu_shared.specs.Exec.{Does}
 use Rattle.qpu_machine.specs.Kept.{IsOnPath, IsKept, KeepsPath}
-use Rattle.qpu_machine.proofs.KeptControl.{control_step}
-use Rattle.qpu_machine.proofs.KeptFlags.{flags_step, carry_step}
+use Rattle.qpu_hazard.proofs.ProcessorLemmas.{processor_stays}
+use Rattle.qpu_hazard.proofs.MaskLemmas.{zn_defined, carry_defined}
 use Rattle.qpu_machine.proofs.KeptLooks.{looks_step}
 use Rattle.qpu_machine.proofs.KeptOthers.{others_by_instruction, length_kept_by_instruction}
 use Rattle.qpu_word.proofs.KeptLemmas.{done_moves}
@@ -104,15 +106,13 @@ on_after : (code : List ℕ) (p : ProcessorState) (looks looks' : LookupsState) 
 unfolding done moved_on
 on_after code p looks looks' ins book clean on holds looks0 looks1 going =
     let f : Fields = fields_at code p.place in
-    let step = control_step code on.path p on.rest clean on.is_path on.stands on.is_rest holds going in
+    let step = processor_stays code on.path p clean on.is_path on.stands holds in
     record {
       path = p.place ∷ on.path;
-      rest = step.1.control;
       is_path = step.0;
-      stands = step.1.stands;
-      is_rest = step.1.matches;
-      flags = flags_step f p ins (flags_of code on.path) on.flags;
-      carry = carry_step f p ins (carry_of code on.path) on.carry;
+      stands = subst (λ halt. ProcessorGoes code (p.place ∷ on.path) (place_after f p) (rest_after f p) halt) going step.1;
+      flags = zn_defined f p ins ∙ ap (λ b. sets_flags f || b) on.flags;
+      carry = carry_defined f p ins ∙ ap (λ b. carry_after f b) on.carry;
       looks0 = looks0 ∙ ap (looks_after f 0) on.looks0;
       looks1 = looks1 ∙ ap (looks_after f 1) on.looks1;
     }

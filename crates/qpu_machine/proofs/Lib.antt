@@ -1,8 +1,6 @@
 pub mod RunLemmas
 pub mod AloneLemmas
 pub mod OneSerialLaw
-pub mod KeptControl
-pub mod KeptFlags
 pub mod KeptLooks
 pub mod KeptOthers
 pub mod KeptStep

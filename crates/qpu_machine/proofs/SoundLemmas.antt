@@ -113,10 +113,8 @@ same_count code p looks looks' first second kept going =
     let on = kept going in
     record {
       path = on.path;
-      rest = on.rest;
       is_path = on.is_path;
       stands = on.stands;
-      is_rest = on.is_rest;
       flags = on.flags;
       carry = on.carry;
       looks0 = first ∙ on.looks0;
