@@ -1,8 +1,7 @@
 //! Processors that step, word by word, with what they share.
-ghost use Rattle.std.specs.Prelude.{◌≤◌, ℕ, length, slice_index};
+ghost use Rattle.std.specs.Prelude.{◌≡◌, ◌≤◌, length, slice_index};
 ghost use Rattle.qpu_word.specs.Words.{fields_of, writes_link};
 ghost use Rattle.qpu_word.specs.Instruction.{is_link_point};
-ghost use Rattle.std.specs.Prelude.{◌≡◌};
 
 use qpu_local::Processor;
 use qpu_mem::Memory;
