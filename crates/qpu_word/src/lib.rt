@@ -40,3 +40,6 @@ pub use setup::{Book, ReadSetup, Vectors, WriteSetup, read_setup, write_setup};
 pub use state::{Flags, Halt, Rest};
 pub use traffic::{Ins, Outs};
 pub use word::{Fields, Word};
+
+#[cfg(test)]
+mod tests;
