@@ -16,9 +16,6 @@ const NOP: u64 = 0x100009e7009e7000;
 /// More steps than any of these programs has.
 const ALL: u32 = 100;
 
-/// The number of the lane in each lane.
-const NUMBERS: [u32; LANES] = [0, 1, 2, 3, 4, 5, 6, 7, 8, 9, 10, 11, 12, 13, 14, 15];
-
 #[test]
 fn a_uniform_is_one_word_for_both_files(rt: HostRuntime) -> Result<(), Fail> {
     let mut shared = shared_with(rt.alloc(), 2, &[5, 6])?;
@@ -85,7 +82,7 @@ fn a_read_setup_ends_after_its_vectors(rt: HostRuntime) -> Result<(), Fail> {
 
 #[test]
 fn a_store_fits_the_vpm_and_memory(rt: HostRuntime) -> Result<(), Fail> {
-    // ldi vw_setup, 0x80104000: 128 rows; and 0xa0104000: 64 rows; each of 16 words
+    // ldi vw_setup, 0x80104000, a store of 128 rows; and 0xa0104000, of 64 rows
     let (of_128, of_64) = (0xe0021c6780104000, 0xe0021c67a0104000);
     for (setup, memory, fits) in [
         (of_128, 1024, false),
@@ -317,13 +314,13 @@ fn a_load_and_a_store_are_pending_at_once(rt: HostRuntime) -> Result<(), Fail> {
 
 #[test]
 fn a_start_is_seen_from_the_next_word_on(rt: HostRuntime) -> Result<(), Fail> {
-    // of a load:  ldi vr_setup, 0x80011000; or vr_addr, r1, r1 and v8min r0, vpm_ld_busy,
+    // of a load: ldi vr_setup, 0x80011000; or vr_addr, r1, r1 and v8min r0, vpm_ld_busy,
     // vpm_ld_busy; or r2, vpm_ld_busy, vpm_ld_busy
     let load = [0xe0020c6780011000, 0x10024ca095c67276, 0x100208a715c67d80];
     // of a store: ldi vw_setup, 0x80904000; or vw_addr, r1, r1 and v8min r0, vpm_st_busy,
     // vpm_st_busy; or r2, vpm_st_busy, vpm_st_busy
     let store = [0xe0021c6780904000, 0x10025ca0959f127f, 0x100208a7159f1fc0];
-    for [setup, start, busy] in [load, store] {
+    for (is_load, [setup, start, busy]) in [(true, load), (false, store)] {
         let mut shared = shared_with(rt.alloc(), 16, &[])?;
         let mut p = Processor::new(0, 0);
         // ldi r0, 7; ldi r2, 7
@@ -337,10 +334,10 @@ fn a_start_is_seen_from_the_next_word_on(rt: HostRuntime) -> Result<(), Fail> {
         ];
         assert!(rt; run(&words, &mut p, &mut shared, 4) == Some(Did::Stepped));
         assert!(rt; p.accumulator(0).v == [0; LANES] && p.accumulator(2).v == [7; LANES]);
-        assert!(rt; shared.load_pending(0) != shared.store_pending(0));
+        assert!(rt; shared.load_pending(0) == is_load && shared.store_pending(0) != is_load);
         assert!(rt; step(&words, &mut p, &mut shared) == Some(Did::Stepped));
         assert!(rt; p.accumulator(2).v == [1; LANES]);
-        assert!(rt; shared.move_load(0) != shared.move_store(0));
+        assert!(rt; shared.move_load(0) == is_load && shared.move_store(0) != is_load);
         assert!(rt; step(&words, &mut p, &mut shared) == Some(Did::Stepped));
         assert!(rt; p.accumulator(2).v == [0; LANES]);
     }

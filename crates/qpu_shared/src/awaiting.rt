@@ -1,10 +1,10 @@
 //! Why an instruction awaits.
-ghost use Rattle.std.specs.Prelude.{◌≡◌, ◌↔◌, ◌<◌, ◌≤◌, ◌==◌, ◌&&◌, is_some, is_none, length, not, IsTrue};
+ghost use Rattle.std.specs.Prelude.{◌≡◌, ◌↔◌, ◌<◌, ◌==◌, ◌&&◌, is_some, is_none, length, not, IsTrue};
 ghost use Rattle.qpu_word.specs.declared.code.TheConstants.{SEMAPHORE_MOST};
 ghost use Rattle.qpu_word.specs.Words.{fields_of, is_semaphore, is_tmu_load, IsInProfile};
 ghost use Rattle.qpu_word.specs.Instruction.{is_look_address, look_address};
 ghost use Rattle.qpu_tmu.specs.Looks.{oldest_words};
-ghost use Rattle.qpu_shared.specs.Exec.{look_ups, look_unit_of, HasRoom};
+ghost use Rattle.qpu_shared.specs.Exec.{look_unit_of, HasRoom};
 ghost use Rattle.qpu_shared.specs.Instruction.{count_of, first_cause, is_down, looks_of, pending_of};
 
 use crate::cause::Cause;
