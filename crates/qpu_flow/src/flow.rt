@@ -114,8 +114,7 @@ impl Model for Flow {
 }
 
 impl Flow {
-    /// The program of words, at most 4,096. `Word` comes exactly where some word is outside the
-    /// profile.
+    /// The program of words, at most 4,096. It is refused where a word is outside the profile.
     pub fn of(alloc: Global, words: &[Word]) -> Result<Flow, FlowFault>
         requires { length words.now ≤ 4096 }
         ensures words { IfOk result (λ flow. flow ≡ numbers_of words.now) }

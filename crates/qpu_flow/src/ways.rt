@@ -201,10 +201,10 @@ impl Flow {
         }
     }
 
-    /// Control after the word at its place, which is a word of the program. `taken` is looked at
-    /// only for a branch whose condition isn't always. `AnyLink` comes exactly after the last slot
-    /// of a taken register branch, `Ended` exactly after program end's second slot, and `Outside`
-    /// exactly where control asks for an address that is no word.
+    /// Control after the word at its place, which is a word of the program. An unconditional branch
+    /// goes its way whatever `taken` is. `AnyLink` is where the last slot of a taken register branch
+    /// was executed, `Ended` where that of program end was, and `Outside` where no word stands at
+    /// the address that comes next.
     pub fn follow(&self, control: Control, taken: bool) -> Next
         requires { control.place < length self.now }
         ensures { result ≡ follow self.now control taken }

@@ -70,8 +70,8 @@ next_of code t = next_from code (slots_of code t) (last_of t)
 unfoldable pub follows : List ℕ → List ℕ → ℕ → Bool
 follows code t a = leads_to code (next_of code t) a
 
--- a path begins at word 0 and follows control, either way at a branch whose condition isn't always,
--- and to any link point after a taken register branch; only its last word may break a rule
+-- a path: from word 0 on, each word is one that control may choose after those before it, whatever
+-- the flags are; no word but the last breaks a rule
 abbrev pub IsPath : List ℕ → List ℕ → Type 0
 IsPath code [] = Unit {0}
 IsPath code (a ∷ t) = IsPath code t × (broken code t ≡ []) × IsTrue (follows code t a)

@@ -1,6 +1,6 @@
 -- The hazard rules H1 to H17, one equation each: what the word that comes next may not do, after
 -- what was executed before it. H14 (a rotation of an operand that can't be rotated) and H17 (a
--- semaphore word that writes) speak of one word alone and are faults of words outside the profile.
+-- semaphore word that writes) ask one word alone, and stand among the faults of words.
 use Rattle.std.specs.Prelude.{ℕ, ◌+◌, ◌==◌, ◌&&◌, ◌||◌, Bool, not, nat_lt, List, [], ◌∷◌, ◌++◌, Option, Some, None, if◌then◌else◌}
 use Rattle.qpu_word.specs.declared.word.Fields.{Fields}
 use Rattle.qpu_word.specs.Words.{is_branch, is_program_end}
@@ -31,74 +31,74 @@ end_slot_of code None = None
 end_slot_of code (Some slots) =
     if not (slots.left == 0) && is_program_end (fields_at code slots.place) then Some slots.place else None
 
--- H1: no read of a row of file A or B that the word before wrote
+-- H1: a row of a file isn't read directly after the word that wrote it
 abbrev pub h1 : List ℕ → Option ℕ → Fields → List Break
 h1 code None f = []
 h1 code (Some last) f = when (row_conflict (fields_at code last) f) 1 last
 
--- H2: no active rotation by r5 directly after a write of r5
+-- H2: r5 isn't written directly before a word that rotates by it
 abbrev pub h2 : List ℕ → Option ℕ → Fields → List Break
 h2 code None f = []
 h2 code (Some last) f = when (rotation_conflict (fields_at code last) f) 2 last
 
--- H3: no active rotation directly after a write of an accumulator that its mul unit uses
+-- H3: what is rotated wasn't written directly before
 abbrev pub h3 : List ℕ → Option ℕ → Fields → List Break
 h3 code None f = []
 h3 code (Some last) f = when (rotated_conflict (fields_at code last) f) 3 last
 
--- H4: the two words after a write of the uniforms address read no uniform; asked of each of the two
--- words before
+-- H4: a uniform isn't read within two words of a write of the uniforms address; asked of each of the
+-- two words before
 abbrev pub h4 : List ℕ → Option ℕ → Fields → List Break
 h4 code None f = []
 h4 code (Some earlier) f = when (uniform_conflict (fields_at code earlier) f) 4 earlier
 
--- H5: program end and its two slots access no uniform, no VPM and no DMA
+-- H5: from program end on uniforms, the VPM and DMA are left alone
 abbrev pub h5 : List ℕ → Option Slots → Fields → ℕ → List Break
 h5 code slots f at =
     when (is_program_end f && accesses f) 5 at ++ in_slot (end_slot_of code slots) (accesses f) 5
 
--- H6: program end writes no row of file A or B
+-- H6: in program end itself no row is written
 abbrev pub h6 : Fields → ℕ → List Break
 h6 f at = when (is_program_end f && writes_row f) 6 at
 
--- H7: program end and its two slots neither read nor write row 14 of either file
+-- H7: from program end on row 14 of both files is left alone
 abbrev pub h7 : List ℕ → Option Slots → Fields → ℕ → List Break
 h7 code slots f at =
     when (is_program_end f && touches_end_row f) 7 at ++ in_slot (end_slot_of code slots) (touches_end_row f) 7
 
--- H8: at most one look-up, TMU load, acquiring of the mutex or semaphore step in a word
+-- H8: of look-ups, TMU loads, acquirings of the mutex and semaphore steps a word has one at most
 abbrev pub h8 : Fields → ℕ → List Break
 h8 f at = when (nat_lt 1 (actions f)) 8 at
 
--- H9: no branch and no program end in a slot of either
+-- H9: slots hold no further branch and no further program end
 abbrev pub h9 : Option Slots → Fields → List Break
 h9 slots f = in_slot (slot_of slots) (is_branch f || is_program_end f) 9
 
--- H10: no step goes past the last word, and the target of a branch without a register that can be
--- taken is a word of the program; asked of the word after which control goes there
+-- H10: control never asks for an address at which the program has no word; asked of the word after
+-- which it would go there
 abbrev pub h10 : List ℕ → Option Slots → ℕ → List Break
 h10 code slots at = when (leads_out code (next_from code (slots_after code slots at) (Some at))) 10 at
 
--- H11: both units don't write one place
+-- H11: the units of a word write different places
 abbrev pub h11 : Fields → ℕ → List Break
 h11 f at = when (writes_one_place f) 11 at
 
--- H12: r4 is used only after a TMU load, Z and N are tested only after a setting, and C only where
--- the last setting defined it
+-- H12: what is used or tested was defined: r4 by a TMU load, Z and N by some setting of the flags, C by
+-- the last one
 abbrev pub h12 : Bool → Bool → Bool → Fields → ℕ → List Break
 h12 loaded flags carry f at =
     when ((uses_r4 f && not loaded) || (tests_zn f && not flags) || (tests_carry f && not carry)) 12 at
 
--- H13: the outstanding look-ups of a unit are never more than four, and a TMU load finds one
+-- H13: a unit holds four look-ups at most, and no TMU load meets an empty queue
 abbrev pub h13 : ℕ → ℕ → Fields → ℕ → List Break
 h13 unit looks f at =
     when (nat_lt LOOKS_MOST (looks + looks_made f unit) || nat_lt (looks + looks_made f unit) (looks_taken f unit)) 13 at
 
--- H15: writes to addresses behind r3, other than nowhere, have the condition always
+-- H15: behind r3 a unit writes by the condition always, or not at all
 abbrev pub h15 : Fields → ℕ → List Break
 h15 f at = when (writes_by_condition f) 15 at
 
--- H16: at most one access to the VPM in a word
+-- H16: a word accesses the VPM once at most
 abbrev pub h16 : Fields → ℕ → List Break
 h16 f at = when (nat_lt 1 (vpm_accesses f)) 16 at
 

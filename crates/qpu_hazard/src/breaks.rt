@@ -9,9 +9,9 @@ use std::alloc::AllocError;
 pub struct Break {
     /// The number of the rule, 1 to 16.
     pub rule: u32,
-    /// The place told with it: of the word executed directly before for H1 to H3, of the write of
-    /// the uniforms address for H4, of the branch or program end concerned for H5, H7 and H9, else
-    /// of the breaking word.
+    /// The place told with it. H1 to H3 tell the last word before the breaking one, H4 the word that
+    /// wrote the uniforms address, H5, H7 and H9 the branch or program end whose slots are in
+    /// progress or begin. All others tell the breaking word again.
     pub before: u32,
 }
 

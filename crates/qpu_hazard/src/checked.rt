@@ -19,15 +19,13 @@ use std::marker::Model;
 pub enum CheckFault {
     /// The word at this place is outside the profile, and none before it is.
     Word(u32, WordFault),
-    /// All words are in the profile, and some path breaks a rule at its last word and none before.
+    /// All words are in the profile, and this is the first break that a path leads to.
     Hazard {
         /// The number of the rule, 1 to 16.
         rule: u32,
         /// The place of the breaking word, counted in words from 0.
         at: u32,
-        /// The place told with it: of the word executed directly before for H1 to H3, of the write
-        /// of the uniforms address for H4, of the branch or program end concerned for H5, H7 and
-        /// H9, else `at`.
+        /// The place told with it, as in `Break`.
         before: u32,
     },
     /// Want of memory.
@@ -52,10 +50,10 @@ impl Model for Checked {
     ghost invariant = { λ checked. IsClean checked.flow };
 }
 
-/// Judges words, at most 4,096, over all paths. `Word` comes exactly where some word is outside the
-/// profile, at the least such place. Otherwise `Hazard` comes exactly where some path breaks a rule
-/// at its last word and breaks none before: the least place, then the least rule, then the least
-/// place told with it.
+/// Judges words, at most 4,096, over all paths. Words outside the profile are refused first, at the
+/// first of them in the text. A program of the profile is refused where a path leads to a break:
+/// with the break of the least place, of these with the least rule, of these with the least place
+/// told with it. All other programs are checked ones.
 pub fn check(alloc: Global, words: &[Word]) -> Result<Checked, CheckFault>
     requires { length words.now ≤ 4096 }
     ensures words { IfOk result (λ checked. checked ≡ numbers_of words.now) }

@@ -1,20 +1,20 @@
 //! Laws of paths that machines lean on. Each is a function without a body; its clause is the law.
 ghost use Rattle.std.specs.Prelude.{◌≡◌, ℕ, List, [], ◌∷◌, Bool, false, ◌||◌, is_some, IsTrue};
+ghost use Rattle.qpu_word.specs.Instruction.{flags_after, branch_fails, place_after, rest_after, halt_after, is_link_point};
+ghost use Rattle.qpu_word.specs.Processor.{ProcessorState};
+ghost use Rattle.qpu_word.specs.declared.state.Rest.TheVariants.{Straight as RunsOn};
+ghost use Rattle.qpu_word.specs.declared.traffic.Ins.{Ins};
+ghost use Rattle.qpu_word.specs.declared.word.Fields.{Fields};
+ghost use Rattle.qpu_flow.specs.Code.{fields_at};
+ghost use Rattle.qpu_flow.specs.Control.{follow};
 ghost use Rattle.qpu_flow.specs.declared.control.Control.{Control};
 ghost use Rattle.qpu_flow.specs.declared.control.Rest.TheVariants.{Straight};
-ghost use Rattle.qpu_flow.specs.Control.{follow};
-ghost use Rattle.qpu_flow.specs.Code.{fields_at};
-ghost use Rattle.qpu_word.specs.Processor.{ProcessorState};
-ghost use Rattle.qpu_word.specs.declared.word.Fields.{Fields};
-ghost use Rattle.qpu_word.specs.declared.traffic.Ins.{Ins};
 ghost use Rattle.qpu_hazard.specs.Demands.{sets_flags};
-ghost use Rattle.qpu_word.specs.declared.state.Rest.TheVariants.{Straight as RunsOn};
-ghost use Rattle.qpu_word.specs.Instruction.{flags_after, branch_fails, place_after, rest_after, halt_after, is_link_point};
+ghost use Rattle.qpu_hazard.specs.Holds.{WordHolds};
 ghost use Rattle.qpu_hazard.specs.Paths.{IsPath, IsClean, broken, carry_after, follows};
-ghost use Rattle.qpu_hazard.specs.Trails.{trail, advance, follows_from, broken_from};
 ghost use Rattle.qpu_hazard.specs.Refusal.{NoneRefusable};
 ghost use Rattle.qpu_hazard.specs.Standing.{Stands, Goes, ProcessorStands, ProcessorGoes};
-ghost use Rattle.qpu_hazard.specs.Holds.{WordHolds};
+ghost use Rattle.qpu_hazard.specs.Trails.{trail, advance, follows_from, broken_from};
 
 /// Which words may follow a path depends on its trail alone.
 #[tactic(auto, unfolding(crate::specs::Paths::follows, crate::specs::Trails::follows_from, crate::specs::Trails::trail))]

@@ -383,7 +383,7 @@ static CASES: [Case; 61] = [
         refusal: None,
     },
     Case {
-        name: "H12: Z is set on one way to the test alone",
+        name: "H12: C is defined on one way to the test alone",
         words: &[
             Word(0x100229e70d9e7040),
             Word(0xf0a809e700000008),
