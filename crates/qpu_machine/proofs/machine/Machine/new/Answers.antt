@@ -12,9 +12,7 @@ pub start-requires-clause-program : goal.start-requires-clause-program
 start-requires-clause-program c =
     let d : Start = record { q = 0; program = 0; uniforms = 0 } in
     let items : c.deref.result.now ≡ c.args.starts.items = c.deref.ensures.0 ∙ ap (λ (s : Started). s.starts) c.machine-in-loop-i.view_is ∙ c.loop-i.invariant.starts in
-    let begun : c.machine.inside.starts.items ≡ c.args.starts.items = ap (λ (s : Started). s.starts) c.machine.view_is ∙ c.unstarted-machine.ensures.starts in
-    let room : c.len-i-end.result ≡ length c.args.starts.items = c.len-i-end.ensures.value ∙ ap (λ (xs : List Start). length xs) begun in
-    let low : c.loop-i.i < length c.args.starts.items = omega (arith, room) in
+    let low : c.loop-i.i < length c.args.starts.items = omega arith in
     let list = (arc_value c.args.programs).list.items in
     let same : c.loop-i.machine.state.programs ≡ list =
     ap (λ (m : MachineState). m.programs) c.loop-i.invariant.state ∙ programs_of_machine c.args.memory c.args.limit list (take c.loop-i.i c.args.starts.items) in
@@ -24,9 +22,7 @@ pub start-requires-clause-nothing : goal.start-requires-clause-nothing
 start-requires-clause-nothing c =
     let d : Start = record { q = 0; program = 0; uniforms = 0 } in
     let items : c.deref.result.now ≡ c.args.starts.items = c.deref.ensures.0 ∙ ap (λ (s : Started). s.starts) c.machine-in-loop-i.view_is ∙ c.loop-i.invariant.starts in
-    let begun : c.machine.inside.starts.items ≡ c.args.starts.items = ap (λ (s : Started). s.starts) c.machine.view_is ∙ c.unstarted-machine.ensures.starts in
-    let room : c.len-i-end.result ≡ length c.args.starts.items = c.len-i-end.ensures.value ∙ ap (λ (xs : List Start). length xs) begun in
-    let low : c.loop-i.i < length c.args.starts.items = omega (arith, room) in
+    let low : c.loop-i.i < length c.args.starts.items = omega arith in
     rw (items, c.loop-i.invariant.state)
     (nothing_of_machine c.args.memory c.args.limit (arc_value c.args.programs).list.items (take c.loop-i.i c.args.starts.items) _ (c.requires.numbers c.loop-i.i d low))
 
@@ -34,9 +30,7 @@ pub loop-i-preserved : goal.loop-i-preserved
 loop-i-preserved c =
     let d : Start = record { q = 0; program = 0; uniforms = 0 } in
     let items : c.deref.result.now ≡ c.args.starts.items = c.deref.ensures.0 ∙ ap (λ (s : Started). s.starts) c.machine-in-loop-i.view_is ∙ c.loop-i.invariant.starts in
-    let begun : c.machine.inside.starts.items ≡ c.args.starts.items = ap (λ (s : Started). s.starts) c.machine.view_is ∙ c.unstarted-machine.ensures.starts in
-    let room : c.len-i-end.result ≡ length c.args.starts.items = c.len-i-end.ensures.value ∙ ap (λ (xs : List Start). length xs) begun in
-    let low : c.loop-i.i < length c.args.starts.items = omega (arith, room) in
+    let low : c.loop-i.i < length c.args.starts.items = omega arith in
     let list = (arc_value c.args.programs).list.items in
     record {
       state =
@@ -45,4 +39,5 @@ loop-i-preserved c =
           ∙ ap (λ (xs : List Start). with_start (machine_of c.args.memory c.args.limit list (take c.loop-i.i c.args.starts.items)) (slice_index_or xs c.loop-i.i d)) items
           ∙ sym (machine_more c.args.memory c.args.limit list c.args.starts.items c.loop-i.i d low);
       starts = c.start.ensures.starts ∙ c.loop-i.invariant.starts;
+      count = c.loop-i.invariant.count;
     }
