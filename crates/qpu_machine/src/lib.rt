@@ -6,6 +6,7 @@ mod conclusion;
 mod journal;
 mod laws;
 mod machine;
+mod opening;
 mod start;
 mod stepping;
 mod taking;

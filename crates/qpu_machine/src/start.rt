@@ -1,5 +1,5 @@
 /// A processor's start: at word 0 of a program, with the byte address of its uniforms.
-#[derive(Clone, Copy, Debug, PartialEq, Eq)]
+#[derive(Clone, Copy, Debug, Default, PartialEq, Eq)]
 pub struct Start {
     /// The processor's number, below 12.
     pub q: u32,
