@@ -7,3 +7,4 @@ pub mod KeptStep
 pub mod WordLemmas
 pub mod SoundLemmas
 pub mod MovedLemmas
+pub mod JournalLemmas
