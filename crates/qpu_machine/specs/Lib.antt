@@ -8,3 +8,4 @@ pub mod Kept
 pub mod Views
 pub mod Sound
 pub mod Took
+pub mod Journal

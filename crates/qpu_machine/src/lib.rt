@@ -13,7 +13,7 @@ mod taking;
 
 pub use actor::Actor;
 pub use conclusion::Ending;
-pub use journal::Run;
-pub use laws::one_serial_schedule;
+pub use journal::{Journal, Run};
+pub use laws::{journal_spells, one_serial_schedule};
 pub use machine::Machine;
 pub use start::Start;
