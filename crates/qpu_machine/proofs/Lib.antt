@@ -9,3 +9,4 @@ pub mod SoundLemmas
 pub mod MovedLemmas
 pub mod OpeningLemmas
 pub mod JournalLemmas
+pub mod EndingLemmas

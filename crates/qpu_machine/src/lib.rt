@@ -3,6 +3,7 @@
 
 mod actor;
 mod conclusion;
+mod ending;
 mod journal;
 mod laws;
 mod machine;
@@ -10,6 +11,8 @@ mod opening;
 mod start;
 mod stepping;
 mod taking;
+#[cfg(test)]
+mod tests;
 
 pub use actor::Actor;
 pub use conclusion::Ending;
