@@ -137,3 +137,6 @@ fn copies_of(all: &[Option<Processor>; PROCESSORS]) -> [Option<Processor>; PROCE
     }
     copies
 }
+
+#[cfg(test)]
+mod tests;
