@@ -89,6 +89,22 @@ one_more (r ∷ next ∷ runs) (suc i) run actor count long last apart =
     let less : suc i ≡ length (next ∷ runs) = omega arith in
     ap (λ s. r ∷ s) (one_more (next ∷ runs) i run actor count less last apart)
 
+pub none_last : (xs : List Run) (i : ℕ) (run : Run) (actor : Actor) → suc i ≡ length xs → run ≡ get_or xs i run → run.actor ≢ actor → last_count xs actor ≡ 0
+unfolding last_count
+none_last [] i run actor long last apart = refl
+none_last (r ∷ []) zero run actor long last apart =
+    rw (← last, not_of run.actor actor (is_same_actor run.actor actor) refl apart) refl
+none_last (r ∷ []) (suc i) run actor long last apart = absurd (omega arith)
+none_last (r ∷ next ∷ runs) zero run actor long last apart = absurd (omega arith)
+none_last (r ∷ next ∷ runs) (suc i) run actor long last apart =
+    let less : suc i ≡ length (next ∷ runs) = omega arith in
+    none_last (next ∷ runs) i run actor less last apart
+
+pub none_first : (xs : List Run) (actor : Actor) → length xs ≡ 0 → last_count xs actor ≡ 0
+unfolding last_count
+none_first [] actor none = refl
+none_first (r ∷ runs) actor none = absurd (omega arith)
+
 -- runs stay merged
 
 one_merged : (run : Run) (actor : Actor) (count : ℕ) (same : Bool) → is_same_actor run.actor actor ≡ same → 1 ≤ run.count → 1 ≤ count

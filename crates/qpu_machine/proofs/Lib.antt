@@ -8,3 +8,4 @@ pub mod WordLemmas
 pub mod SoundLemmas
 pub mod MovedLemmas
 pub mod JournalLemmas
+pub mod EndingLemmas

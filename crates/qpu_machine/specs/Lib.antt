@@ -9,3 +9,4 @@ pub mod Views
 pub mod Sound
 pub mod Took
 pub mod Journal
+pub mod Still

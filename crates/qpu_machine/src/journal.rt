@@ -1,5 +1,5 @@
 //! What a machine did, as runs of one actor's steps.
-ghost use Rattle.std.specs.Prelude.{◌≡◌, ◌+◌, ◌^◌, ◌<◌, ◌≤◌, ◌++◌, ◌∷◌, [], OnOk, OnErr};
+ghost use Rattle.std.specs.Prelude.{◌≡◌, ◌+◌, ◌^◌, ◌<◌, ◌≤◌, ◌++◌, ◌∷◌, [], IsOk, OnOk, OnErr};
 ghost use Rattle.std.specs.Bool.{OnTrue, OnFalse};
 ghost use Rattle.qpu_machine.specs.Journal.{IsMerged, pushed, last_count};
 
@@ -60,6 +60,7 @@ impl Journal {
         requires fits { last_count self.old actor + count < 2 ^ 64 }
         ensures on { OnTrue result (self.new ≡ pushed self.old actor count) }
         ensures same { OnFalse result (self.new ≡ self.old) }
+        ensures apart { OnFalse result (last_count self.old actor ≡ 0) }
         ensures one_more { OnFalse result (self.old ++ (record { actor = actor; count = count }) ∷ [] ≡ pushed self.old actor count) }
     {
         let Some(last) = self.runs.last_mut() else {
@@ -79,6 +80,7 @@ impl Journal {
         requires some { 1 ≤ count }
         requires fits { last_count self.old actor + count < 2 ^ 64 }
         ensures ok { OnOk result (self.new ≡ pushed self.old actor count) }
+        ensures counts_on { 0 < last_count self.old actor → IsOk result }
         ensures err { OnErr result (self.new ≡ self.old) }
     {
         if self.count_on(actor, count) {

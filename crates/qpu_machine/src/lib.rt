@@ -3,12 +3,15 @@
 
 mod actor;
 mod conclusion;
+mod ending;
 mod journal;
 mod laws;
 mod machine;
 mod start;
 mod stepping;
 mod taking;
+#[cfg(test)]
+mod tests;
 
 pub use actor::Actor;
 pub use conclusion::Ending;

@@ -1,6 +1,6 @@
 use Rattle.std.proofs.Common.{◌≡◌, ◌≢◌, ◌-◌, rules, arith, length, vec_len, suc, ap}
 use Rattle.qpu_machine.specs.Journal.{last_count}
-use Rattle.qpu_machine.proofs.JournalLemmas.{counts_on, counts_last, first_run, one_more, stays_merged}
+use Rattle.qpu_machine.proofs.JournalLemmas.{counts_on, counts_last, first_run, one_more, none_first, none_last, stays_merged}
 use Rattle.qpu_machine.proofs.journal.Journal.count_on.Goals as goal
 
 pub overflow_add-last : goal.overflow_add-last
@@ -38,3 +38,15 @@ returns-clause-on c =
     let long : suc (vec_len c.self.inside.runs - 1) ≡ length c.self.inside.runs.items = search rules in
     rw (← c.self.view_is)
     (counts_on c.self.inside.runs.items (vec_len c.self.inside.runs - 1) c.in-Some.last.now c.args.actor c.args.count long (c.in-Some.ensures.value) same)
+
+pub returns-in_default-clause-apart : goal.returns-in_default-clause-apart
+returns-in_default-clause-apart c =
+    let none : length c.self.inside.runs.items ≡ 0 = search rules in
+    rw (← c.self.view_is) (none_first c.self.inside.runs.items c.args.actor none)
+
+pub returns-then-ne-clause-apart : goal.returns-then-ne-clause-apart
+returns-then-ne-clause-apart c =
+    let apart : c.in-Some.last.now.actor ≢ c.args.actor = search rules in
+    let long : suc (vec_len c.self.inside.runs - 1) ≡ length c.self.inside.runs.items = search rules in
+    rw (← c.self.view_is)
+    (none_last c.self.inside.runs.items (vec_len c.self.inside.runs - 1) c.in-Some.last.now c.args.actor long c.in-Some.ensures.value apart)
