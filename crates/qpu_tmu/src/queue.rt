@@ -89,8 +89,8 @@ impl Queue {
     pub(crate) fn oldest(&self) -> Option<Lanes>
         ensures { option_map (λ words. words.v) result ≡ oldest_words self.now }
     {
-        let words = self.looks.first()?.words?;
-        Some(Lanes { v: words })
+        let look = self.looks.first()?;
+        Some(Lanes { v: look.words? })
     }
 
     /// Takes the oldest look-up out where it is fetched, and gives its words; else nothing changes.
