@@ -1,25 +1,3 @@
-<<<<<<< HEAD
-use crate::{Actor, Journal, Run};
-use std::test::Fail;
-
-/// Expected values are by hand.
-#[test]
-fn neighbours_of_one_actor_are_one_run(rt: HostRuntime) -> Result<(), Fail> {
-    let mut journal = Journal::new(rt.alloc());
-    let steps = [
-        (Actor::Exec(0), 7),
-        (Actor::Exec(0), 1),
-        (Actor::Fetch(0, 1), 1),
-        (Actor::Fetch(0, 0), 1),
-        (Actor::Exec(0), 2),
-    ];
-    for (actor, count) in steps {
-        if journal.push(actor, count).is_err() {
-            return Err(Fail::from("want of memory"));
-        }
-    }
-    let runs = [
-=======
 ghost use Rattle.std.specs.Prelude.{◌≡◌, ◌+◌, ◌^◌, ◌<◌, ◌≤◌, OnOk};
 ghost use Rattle.qpu_machine.specs.Journal.{pushed, last_count};
 
@@ -48,18 +26,11 @@ fn neighbours_of_one_actor_are_one_run(rt: HostRuntime) -> Result<(), Fail> {
     push(&mut journal, Actor::Fetch(0, 0), 1)?;
     push(&mut journal, Actor::Exec(0), 2)?;
     let expected = [
->>>>>>> b7366d5b7d8b65a09722eaa2e6ea7df7cfc99c0a
         (Actor::Exec(0), 8),
         (Actor::Fetch(0, 1), 1),
         (Actor::Fetch(0, 0), 1),
         (Actor::Exec(0), 2),
     ];
-<<<<<<< HEAD
-    assert!(rt; journal.runs().len() == runs.len());
-    for at in 0..runs.len() {
-        let (actor, count) = runs[at];
-        assert!(rt; journal.runs()[at] == Run { actor, count }, "run {at}");
-=======
     assert!(rt; journal.runs().len() == expected.len());
     for (run, (actor, count)) in journal.runs().iter().zip(expected.iter()) {
         assert!(rt;
@@ -68,7 +39,6 @@ fn neighbours_of_one_actor_are_one_run(rt: HostRuntime) -> Result<(), Fail> {
                 count: *count
             }
         );
->>>>>>> b7366d5b7d8b65a09722eaa2e6ea7df7cfc99c0a
     }
     Ok(())
 }
