@@ -14,10 +14,10 @@ use qpu_word::code::{ROWS, WRITE_R0, WRITE_R3, WRITE_R5};
 use qpu_word::{Fields, Flags, Ins, LANES, Lanes};
 
 /// The accumulator that TMU loads write, r4 of the manual.
-const R4: usize = 4;
+const LOADED: usize = 4;
 
 /// The accumulator that writes of address 37 go to, r5 of the manual.
-const R5: usize = 5;
+const REPLICATED: usize = 5;
 
 /// Lanes of a group whose first one goes to all of it.
 const GROUP: usize = 4;
@@ -129,7 +129,7 @@ impl Processor {
         } else if address <= WRITE_R3 {
             self.accumulators[(address - WRITE_R0) as usize] = values.v;
         } else if address == WRITE_R5 {
-            self.accumulators[R5] = values.v;
+            self.accumulators[REPLICATED] = values.v;
         }
     }
 
@@ -159,7 +159,7 @@ impl Processor {
         ensures { self.new ≡ put_loaded f.now ins.now self.old }
     {
         if f.takes_words() {
-            self.accumulators[R4] = ins.loaded.v;
+            self.accumulators[LOADED] = ins.loaded.v;
         }
     }
 }

@@ -11,7 +11,7 @@ use qpu_word::code::ROTATE_BY_R5;
 use qpu_word::{Fields, Ins, LANES, Lanes};
 
 /// The accumulator whose lane 0 rotations can go by, r5 of the manual.
-const R5: usize = 5;
+const ROTATING: usize = 5;
 
 impl Processor {
     /// The add unit's results, and its carries where the operation has them.
@@ -57,7 +57,7 @@ impl Processor {
         if !f.is_small() || f.raddr_b < ROTATE_BY_R5 {
             0
         } else if f.raddr_b == ROTATE_BY_R5 {
-            self.accumulators[R5][0] % LANES as u32
+            self.accumulators[ROTATING][0] % LANES as u32
         } else {
             f.raddr_b - ROTATE_BY_R5
         }
