@@ -1,5 +1,5 @@
 //! The machine as one value.
-ghost use Rattle.std.specs.Prelude.{◌≡◌, option_map};
+ghost use Rattle.std.specs.Prelude.{◌≡◌, length, option_map};
 ghost use Rattle.qpu_machine.specs.Machine.{processor_of};
 
 use crate::start::Start;
@@ -61,7 +61,8 @@ impl Machine {
 
     /// Processor q; none exactly where it wasn't started.
     pub fn processor(&self, q: u32) -> Option<&Processor>
-        ensures { option_map (λ processor. processor.now) result ≡ processor_of self.now.state q }
+        ensures processor { option_map (λ processor. processor.now) result ≡ processor_of self.now.state q }
+        ensures twelve { length self.now.state.processors ≡ 12 }
     {
         match self.processors.get(q as usize) {
             Some(Some(processor)) => Some(processor),

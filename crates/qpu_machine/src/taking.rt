@@ -1,14 +1,17 @@
 //! Steps of the machine.
-ghost use Rattle.std.specs.Prelude.{◌≡◌, ◌<◌, true, None, Some, IfSome, IsNone, is_some};
-ghost use Rattle.qpu_shared.specs.Instruction.{is_running};
+ghost use Rattle.std.specs.Prelude.{◌≡◌, ◌<◌, true, None, Some, IfSome, IsNone, is_some, slice_index};
+ghost use Rattle.qpu_word.specs.Words.{fields_of};
+ghost use Rattle.qpu_shared.specs.Instruction.{first_cause, is_running};
+ghost use Rattle.qpu_machine.specs.Awaited.{awaited};
 ghost use Rattle.qpu_machine.specs.declared.actor.Actor.TheVariants.{Exec, Load, Store, Fetch};
-ghost use Rattle.qpu_machine.specs.Machine.{processor_of, after_step};
+ghost use Rattle.qpu_machine.specs.Machine.{processor_of, words_of, after_step};
 ghost use Rattle.qpu_machine.specs.Took.{Took};
 
 use crate::actor::Actor;
 use crate::machine::Machine;
 use crate::stepping::{program_at, take_word};
 use qpu_local::{Halt, Processor};
+use qpu_shared::Cause;
 use qpu_word::Program;
 
 impl Machine {
@@ -19,6 +22,7 @@ impl Machine {
         ensures runs { IfSome result (λ p. is_running self.now.state.limit p ≡ true) }
         ensures low { IfSome result (λ p. q < 12) }
         ensures none { IsNone result → after_step self.now.state (Exec q) ≡ None }
+        ensures nothing { IsNone result → awaited self.now.state q ≡ None }
     {
         let processor = match self.processors.get(q as usize) {
             Some(Some(processor)) => *processor,
@@ -82,6 +86,33 @@ impl Machine {
         }
     }
 
+    /// Why processor q, which is running, awaits at its next word: the first cause that holds.
+    fn cause_at(&self, q: u32, processor: &Processor) -> Option<Cause>
+        requires low { q < 12 }
+        requires there { processor_of self.now.state q ≡ Some processor.now }
+        requires runs { is_running self.now.state.limit processor.now ≡ true }
+        ensures cause { result ≡ first_cause (fields_of (slice_index (words_of self.now.state q) processor.now.place)) q self.now.state.shared }
+        ensures number { processor.now.q ≡ q }
+    {
+        let program = program_at(&self.programs, self.program_of[q as usize]);
+        let _words = program.words();
+        let Some(word) = program.word(processor.place()) else {
+            unreachable!()
+        };
+        self.shared.awaits(q, word)
+    }
+
+    /// Why processor q awaits at its next word: the first cause that holds. None exactly where it
+    /// wasn't started, isn't running, or its word has a step.
+    pub fn awaits(&self, q: u32) -> Option<Cause>
+        ensures { result ≡ awaited self.now.state q }
+    {
+        let Some(processor) = self.running(q) else {
+            return None;
+        };
+        self.cause_at(q, &processor)
+    }
+
     /// Whether processor q has an instruction to take: it is running, and its word doesn't await.
     fn has_instruction(&self, q: u32) -> bool
         ensures { result ≡ is_some (after_step self.now.state (Exec q)) }
@@ -89,12 +120,7 @@ impl Machine {
         let Some(processor) = self.running(q) else {
             return false;
         };
-        let program = program_at(&self.programs, self.program_of[q as usize]);
-        let _words = program.words();
-        let Some(word) = program.word(processor.place()) else {
-            unreachable!()
-        };
-        self.shared.awaits(q, word).is_none()
+        self.cause_at(q, &processor).is_none()
     }
 
     /// Whether an actor has a step.

@@ -3,7 +3,7 @@
 
 mod memory;
 
-pub use memory::Memory;
+pub use memory::{GROUP, Memory};
 
 #[cfg(test)]
 mod tests;

@@ -1,8 +1,19 @@
-ghost use Rattle.std.specs.Prelude.{◌≡◌, ◌<◌, ◌≤◌, ◌↔◌, length, replicate, slice_get, slice_set, IfOk, IsTrue, if◌then◌else◌, nat_lt};
+ghost use Rattle.std.specs.Prelude.{◌≡◌, ◌<◌, ◌≤◌, ◌↔◌, ◌*◌, drop, length, take, replicate, slice_get, slice_set, IfOk, IsTrue, if◌then◌else◌, nat_lt};
+ghost use Rattle.qpu_mem.specs.declared.memory.TheConstants.{GROUP};
 
 use qpu_word::NoMemory;
 use std::alloc::Global;
 use std::marker::Model;
+
+/// How many words a group has, in which memory is shown.
+pub const GROUP: usize = 8;
+
+/// The first words of a list, as many as a group has.
+fn first_group(words: &[u32]) -> &[u32]
+    ensures { result.now ≡ take GROUP words.now }
+{
+    &words[..words.len().min(GROUP)]
+}
 
 /// Words of memory, seen as a list. It has 1 to 1,048,576 words.
 #[derive(Debug, Drop)]
@@ -45,6 +56,17 @@ impl Memory {
         ensures { result ≡ slice_get self.now at }
     {
         self.words.get(at as usize).copied()
+    }
+
+    /// The k-th group of eight words, from 0; the last group has the words that remain, and groups
+    /// past it have none.
+    pub fn group(&self, k: u32) -> &[u32]
+        ensures { result.now ≡ take GROUP (drop (GROUP * k) self.now) }
+    {
+        match self.words.get(k as usize * GROUP..) {
+            Some(rest) => first_group(rest),
+            None => &[],
+        }
     }
 
     /// Sets the word at an index. False exactly where the index isn't below the length; then

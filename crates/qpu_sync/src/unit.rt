@@ -98,6 +98,13 @@ impl SyncUnit {
         self.holder
     }
 
+    /// The counts of the sixteen semaphores, in the order of their numbers.
+    pub fn counts(&self) -> &[u32]
+        ensures { result.now ≡ self.now.counts }
+    {
+        &self.counts
+    }
+
     /// The count of semaphore n, below 16.
     pub fn count(&self, n: u32) -> u32
         requires { n < 16 }

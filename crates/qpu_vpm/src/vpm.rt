@@ -1,6 +1,7 @@
 ghost use Rattle.std.specs.Prelude.{◌≡◌, ◌<◌, ◌*◌, length, replicate, slice_index, slice_set};
 ghost use Rattle.qpu_word.specs.declared.code.TheConstants.{VPM_ROWS, VPM_COLUMNS};
 ghost use Rattle.qpu_vpm.specs.Cells.{cell};
+ghost use Rattle.qpu_vpm.specs.Grid.{row_of};
 ghost use Rattle.qpu_vpm.specs.Fields.{setup_cells};
 ghost use Rattle.qpu_vpm.specs.Values.{vpm_values, with_cells};
 
@@ -55,6 +56,14 @@ impl Vpm {
         ensures long { length self.now ≡ VPM_ROWS * VPM_COLUMNS }
     {
         self.rows[row as usize][column as usize]
+    }
+
+    /// The sixteen words of a row, below 64.
+    pub fn row(&self, row: u32) -> &[u32]
+        requires { row < VPM_ROWS }
+        ensures { result.now ≡ row_of self.now row }
+    {
+        &self.rows[row as usize]
     }
 
     /// Sets the word in a row, below 64, and a column, below 16.
