@@ -30,7 +30,7 @@ same_is (Fetch q u) (Store r) is = absurd (cc)
 same_is (Fetch q u) (Fetch r v) is =
     let e : q ≡ r = grind (arith, nat_tests) in let d : u ≡ v = grind (arith, nat_tests) in cc
 
-is_same : (a : Actor) → is_same_actor a a ≡ true
+pub is_same : (a : Actor) → is_same_actor a a ≡ true
 is_same (Exec q) = grind (arith, nat_tests)
 is_same (Load q) = grind (arith, nat_tests)
 is_same (Store q) = grind (arith, nat_tests)
@@ -39,7 +39,7 @@ is_same (Fetch q u) = grind (arith, nat_tests)
 same_of : (a b : Actor) → a ≡ b → is_same_actor a b ≡ true
 same_of a b e = rw e (is_same b)
 
-not_of : (a b : Actor) (same : Bool) → is_same_actor a b ≡ same → a ≢ b → same ≡ false
+pub not_of : (a b : Actor) (same : Bool) → is_same_actor a b ≡ same → a ≢ b → same ≡ false
 not_of a b true is apart = absurd (apart (same_is a b is))
 not_of a b false is apart = refl
 

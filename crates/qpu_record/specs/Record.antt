@@ -1,23 +1,16 @@
 -- The text of a record. This project's own.
-use Rattle.std.specs.Prelude.{ℕ, ◌+◌, ◌==◌, ◌&&◌, Bool, false, List, [], ◌∷◌, length, flat_map, decimal, codes, if◌then◌else◌}
+use Rattle.std.specs.Prelude.{ℕ, ◌+◌, ◌==◌, Bool, false, List, [], ◌∷◌, length, flat_map, decimal, codes, if◌then◌else◌}
 use Rattle.qpu_io.specs.Text.{joined, in_turn}
 use Rattle.qpu_machine.specs.declared.actor.Actor.{Actor}
 use Rattle.qpu_machine.specs.declared.actor.Actor.TheVariants.{Exec, Load, Store, Fetch}
 use Rattle.qpu_machine.specs.declared.journal.Run.{Run}
-
--- whether two steps are of one actor
-abbrev pub same_actor : Actor → Actor → Bool
-same_actor (Exec q) (Exec r) = q == r
-same_actor (Load q) (Load r) = q == r
-same_actor (Store q) (Store r) = q == r
-same_actor (Fetch q u) (Fetch r v) = (q == r) && (u == v)
-same_actor _ _ = false
+use Rattle.qpu_machine.specs.Journal.{is_same_actor}
 
 -- one step before the runs of the steps after it: it joins the first run where that is of its actor
 abbrev pub with_step : Actor → List Run → List Run
 with_step actor [] = (record { actor = actor; count = 1 }) ∷ []
 with_step actor (run ∷ runs) =
-    if same_actor actor run.actor then (record run { count = run.count + 1 }) ∷ runs
+    if is_same_actor actor run.actor then (record run { count = run.count + 1 }) ∷ runs
     else (record { actor = actor; count = 1 }) ∷ run ∷ runs
 
 -- a schedule with neighbouring steps of one actor put together

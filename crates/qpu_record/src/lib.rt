@@ -1,10 +1,10 @@
 //! The record of a run: the job and the schedule that was taken, as a text.
+//!
+//! `write_record` writes it; that a record spells one schedule is a law.
 #![tactic(auto)]
 
-ghost use Rattle.qpu_record.specs.Apart.{SpellsOneSchedule};
+mod laws;
+mod writing;
 
-/// A law: a record spells one schedule, up to how neighbouring steps of one actor are counted.
-#[tactic(auto, using(crate::proofs::Apart::spells_one_schedule))]
-pub fn spells_one_schedule()
-    ensures { SpellsOneSchedule }
-{}
+pub use laws::spells_one_schedule;
+pub use writing::write_record;

@@ -14,6 +14,8 @@ use Rattle.qpu_word.specs.Words.{fields_of}
 use Rattle.qpu_word.specs.Processor.{ProcessorState}
 use Rattle.qpu_shared.specs.declared.cause.Cause.{Cause}
 use Rattle.qpu_shared.specs.declared.cause.Cause.TheVariants.{Mutex, Up, Down}
+use Rattle.qpu_mem.specs.declared.memory.TheConstants.{GROUP}
+use Rattle.qpu_shared.specs.SharedState.{SharedState}
 use Rattle.qpu_shared.specs.Instruction.{is_running, first_cause}
 use Rattle.qpu_machine.specs.declared.conclusion.Ending.{Ending}
 use Rattle.qpu_machine.specs.declared.conclusion.Ending.TheVariants.{Done, Stuck, RanOut, Faulted as SomeFaulted}
@@ -69,13 +71,20 @@ halt_text (Faulted kind at) running cause place =
 
 -- processors
 
--- the line of a processor: how it stands, and its counts
+-- how processor q of a machine stands
+unfoldable pub halt_of : MachineState → ℕ → ProcessorState → List ℕ
+halt_of m q p =
+    halt_text p.halt (is_running m.limit p) (first_cause (fields_of (slice_index (words_of m q) p.place)) q m.shared) p.place
+
+-- its counts, to the end of its line
+unfoldable pub counts_text : ProcessorState → List ℕ
+counts_text p =
+    joined (codes " executed " ∷ decimal p.executed ∷ codes " interrupts " ∷ decimal p.interrupts ∷ codes "\n" ∷ [])
+
+-- the line of a processor: its number, how it stands, and its counts
 unfoldable pub processor_line : MachineState → ℕ → ProcessorState → List ℕ
 processor_line m q p =
-    joined
-    (codes "qpu " ∷ decimal q ∷ codes " "
-    ∷ halt_text p.halt (is_running m.limit p) (first_cause (fields_of (slice_index (words_of m q) p.place)) q m.shared) p.place
-    ∷ codes " executed " ∷ decimal p.executed ∷ codes " interrupts " ∷ decimal p.interrupts ∷ codes "\n" ∷ [])
+    in_turn (joined (codes "qpu " ∷ decimal q ∷ codes " " ∷ []) ∷ halt_of m q p ∷ counts_text p ∷ [])
 
 -- a mask as four hexadecimal digits
 abbrev pub hex4 : ℕ → List ℕ
@@ -122,20 +131,16 @@ group n values k = take n (drop (n * k) values)
 unfoldable pub vpm_text : List ℕ → List ℕ
 vpm_text vpm = flat_map (λ r. row_line (codes "vpm ") r (group VPM_COLUMNS vpm r)) (range_with_len 0 VPM_ROWS)
 
--- words of memory in a line
-abbrev pub memory_group : ℕ
-memory_group = 8
-
 -- the line of a group of memory's words, with its byte address, where it isn't clear
 abbrev pub memory_line : ℕ → List ℕ → List ℕ
 memory_line k values =
     if is_clear values then []
-    else joined (codes "mem " ∷ hex8 (4 * memory_group * k) ∷ lanes_text values ∷ codes "\n" ∷ [])
+    else joined (codes "mem " ∷ hex8 (4 * GROUP * k) ∷ lanes_text values ∷ codes "\n" ∷ [])
 
 -- the lines of memory's groups; the last has what remains
 unfoldable pub memory_text : List ℕ → List ℕ
 memory_text memory =
-    flat_map (λ k. memory_line k (group memory_group memory k)) (range_with_len 0 ((length memory + memory_group - 1) / memory_group))
+    flat_map (λ k. memory_line k (group GROUP memory k)) (range_with_len 0 ((length memory + GROUP - 1) / GROUP))
 
 -- the line of a semaphore, where its count is above 0
 abbrev pub semaphore_line : ℕ → ℕ → List ℕ
@@ -154,16 +159,19 @@ ending_line Stuck = codes "ending stuck\n"
 ending_line RanOut = codes "ending ranout\n"
 ending_line SomeFaulted = codes "ending faulted\n"
 
+-- the lines of what the processors share
+unfoldable pub shared_text : SharedState → List ℕ
+shared_text h =
+    in_turn
+    (vpm_text h.vpm ∷ memory_text h.memory ∷ numbered semaphore_line 0 h.semaphores ∷ mutex_line h.mutex ∷ [])
+
 -- the report of a final machine
 unfoldable pub report_text : MachineState → List ℕ
 report_text m =
     in_turn
     (codes "report\n"
     ∷ numbered (started_text m) 0 m.processors
-    ∷ vpm_text m.shared.vpm
-    ∷ memory_text m.shared.memory
-    ∷ numbered semaphore_line 0 m.shared.semaphores
-    ∷ mutex_line m.shared.mutex
+    ∷ shared_text m.shared
     ∷ ending_line (ending_of m)
     ∷ codes "endreport\n"
     ∷ [])
