@@ -10,3 +10,5 @@ pub mod MovedLemmas
 pub mod OpeningLemmas
 pub mod JournalLemmas
 pub mod EndingLemmas
+pub mod ScheduleLemmas
+pub mod LocalLemmas

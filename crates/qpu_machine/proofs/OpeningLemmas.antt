@@ -55,6 +55,7 @@ unfolding opening_processor
 own_started m start program there nothing clean = record {
   number = refl;
   program = rw program there;
+  clean = rw program clean;
   executed = omega arith;
   kept = λ going. opens_on (words_of m start.q) start.q start.uniforms (pending_of m.shared start.q) nothing (rw program clean);
 }
@@ -66,6 +67,7 @@ other_started m n r None limit programs program shared at = tt
 other_started m n r (Some p) limit programs program shared at = record {
   number = at.number;
   program = rw (programs, program) at.program;
+  clean = rw (programs, program) at.clean;
   executed = rw limit at.executed;
   kept = rw (programs, program, shared) at.kept;
 }

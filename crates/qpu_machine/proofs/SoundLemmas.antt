@@ -34,7 +34,7 @@ DoesWord m q p did after left =
     p m.shared after left
 
 -- the instruction of a running processor
-runs_as : (m : MachineState) (q : ℕ) (p : ProcessorState) → is_running m.limit p ≡ true → p.q ≡ q
+pub runs_as : (m : MachineState) (q : ℕ) (p : ProcessorState) → is_running m.limit p ≡ true → p.q ≡ q
     → instruction (words_of m q) m.limit p m.shared
     ≡ outcome_under (first_cause (fields_of (slice_index (words_of m q) p.place)) q m.shared)
     (instruction_result (is_link_point (words_of m q)) (slice_index (words_of m q) p.place) p m.shared)
@@ -66,6 +66,7 @@ other_started m n r None limit programs program_of keeps at = tt
 other_started m n r (Some p) limit programs program_of keeps at = record {
   number = at.number;
   program = rw (programs, program_of) at.program;
+  clean = rw (programs, program_of) at.clean;
   executed = rw limit at.executed;
   kept = rw (programs, program_of) (keeps p at.kept);
 }
@@ -92,6 +93,7 @@ sound_after m q p after left sound low there runs keeps = record {
         (record {
           number = keeps.number;
           program = at.program;
+          clean = at.clean;
           executed = omega (arith, keeps.executed, less);
           kept = keeps.kept;
         })
@@ -141,7 +143,7 @@ going_of Going is = refl
 going_of Ended is = absurd (cc)
 going_of (Faulted kind place) is = absurd (cc)
 
-left_true : (a b : Bool) → (a && b) ≡ true → a ≡ true
+pub left_true : (a b : Bool) → (a && b) ≡ true → a ≡ true
 left_true true b is = refl
 left_true false b is = absurd (cc)
 

@@ -24,6 +24,10 @@ pub record IsOnPath (code : List ℕ) (p : ProcessorState) (looks : LookupsState
 abbrev pub IsKept : List ℕ → ProcessorState → LookupsState → Type 0
 IsKept code p looks = p.halt ≡ Going → IsOnPath code p looks
 
+-- it does with some look-ups outstanding
+abbrev pub IsKeptAlone : List ℕ → ProcessorState → Type 0
+IsKeptAlone code p = (looks : LookupsState) × IsKept code p looks
+
 -- what a word of processor q keeps, whatever became of it: the number, a count that grows by one at
 -- most, where the processor stands, what others have pending, and for how many there is room
 pub record KeepsPath (code : List ℕ) (q : ℕ) (p : ProcessorState) (h : SharedState) (after : ProcessorState) (left : SharedState) : Type 0 where

@@ -10,3 +10,4 @@ pub mod Sound
 pub mod Took
 pub mod Journal
 pub mod Still
+pub mod Local

@@ -3,14 +3,17 @@ use Rattle.std.specs.Prelude.{◌≡◌, ◌<◌, ◌≤◌, ℕ, length, Option
 use Rattle.qpu_word.specs.declared.code.TheConstants.{PROCESSORS, LIMIT_MOST}
 use Rattle.qpu_word.specs.Processor.{ProcessorState}
 use Rattle.qpu_shared.specs.Instruction.{pending_of}
+use Rattle.qpu_hazard.specs.Paths.{IsClean}
 use Rattle.qpu_machine.specs.Machine.{MachineState, processor_of, words_of}
 use Rattle.qpu_machine.specs.Kept.{IsKept}
 
--- a processor that was started has its number, and a program of the list; it has executed no more
--- than the limit; and where it goes on it stands on a path of its program
+-- a processor that was started has its number, and a program of the list, no path of which breaks
+-- a rule; it has executed no more than the limit; and where it goes on it stands on a path of its
+-- program
 pub record IsStarted (m : MachineState) (q : ℕ) (p : ProcessorState) : Type 0 where
   pub number : p.q ≡ q
   pub program : slice_index m.program_of q < length m.programs
+  pub clean : IsClean (words_of m q)
   pub executed : p.executed ≤ m.limit
   pub kept : IsKept (words_of m q) p (pending_of m.shared q).looks
 

@@ -8,8 +8,10 @@ mod journal;
 mod laws;
 mod machine;
 mod opening;
+mod putting;
 mod start;
 mod stepping;
+mod stretching;
 mod taking;
 #[cfg(test)]
 mod tests;
@@ -20,3 +22,4 @@ pub use journal::{Journal, Run};
 pub use laws::{journal_spells, one_serial_schedule};
 pub use machine::Machine;
 pub use start::Start;
+pub use stretching::stretch;
