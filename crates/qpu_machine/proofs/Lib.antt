@@ -12,3 +12,6 @@ pub mod JournalLemmas
 pub mod EndingLemmas
 pub mod ScheduleLemmas
 pub mod LocalLemmas
+pub mod PendingLemmas
+pub mod BoundLemmas
+pub mod SerialLemmas

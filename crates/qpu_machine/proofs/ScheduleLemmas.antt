@@ -7,7 +7,7 @@ use Rattle.qpu_word.specs.Words.{fields_of}
 use Rattle.qpu_word.specs.Processor.{ProcessorState}
 use Rattle.qpu_word.specs.Instruction.{is_link_point, halted}
 use Rattle.qpu_shared.specs.declared.did.Did.{Did}
-use Rattle.qpu_shared.specs.declared.did.Did.TheVariants.{Stepped, Faulted as ItFaulted}
+use Rattle.qpu_shared.specs.declared.did.Did.TheVariants.{Stepped, Awaits as ItAwaits, Faulted as ItFaulted}
 use Rattle.qpu_shared.specs.SharedState.{SharedState}
 use Rattle.qpu_shared.specs.Exec.{Does}
 use Rattle.qpu_shared.specs.Instruction.{Outcome, NoStep, Awaits, Faults, Done, first_cause, instruction_result, outcome_under, is_running, instruction}
@@ -44,6 +44,12 @@ started_there m q p sound there = subst (IsStartedAt m q) there (sound.each q (t
 
 -- an instruction of a processor
 
+-- a word that awaits is no step
+abbrev pub is_step : Did → Bool
+is_step Stepped = true
+is_step (ItAwaits cause) = false
+is_step (ItFaulted kind) = true
+
 -- the processor of an instruction's step, which runs, and what its word comes to
 pub record StepsExec (m : MachineState) (q : ℕ) (n : MachineState) : Type 0 where
   pub p : ProcessorState
@@ -56,6 +62,7 @@ pub record StepsExec (m : MachineState) (q : ℕ) (n : MachineState) : Type 0 wh
       (outcome_under (first_cause (fields_of (slice_index (words_of m q) p.place)) q m.shared)
       (instruction_result (is_link_point (words_of m q)) (slice_index (words_of m q) p.place) p m.shared))
       p m.shared after left
+  pub steps : is_step did ≡ true
   pub is : n ≡ with_both m q after left
 
 by_outcome : (m : MachineState) (q : ℕ) (n : MachineState) (p : ProcessorState) (due : Outcome) → processor_of m q ≡ Some p → is_running m.limit p ≡ true
@@ -71,6 +78,7 @@ by_outcome m q n p (Faults kind) there runs is steps = record {
   left = m.shared;
   did = ItFaulted kind;
   does = (is, refl, refl);
+  steps = refl;
   is = sym (some_is (with_both m q (halted kind p) m.shared) n steps);
 }
 by_outcome m q n p (Done after left) there runs is steps = record {
@@ -81,6 +89,7 @@ by_outcome m q n p (Done after left) there runs is steps = record {
   left = left;
   did = Stepped;
   does = is;
+  steps = refl;
   is = sym (some_is (with_both m q after left) n steps);
 }
 

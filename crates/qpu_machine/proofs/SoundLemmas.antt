@@ -15,12 +15,13 @@ use Rattle.qpu_tmu.specs.Looks.{LookupsState}
 use Rattle.qpu_shared.specs.declared.cause.Cause.{Cause}
 use Rattle.qpu_shared.specs.declared.did.Did.{Did}
 use Rattle.qpu_shared.specs.declared.did.Did.TheVariants.{Stepped, Awaits as ItAwaits, Faulted as ItFaulted}
+use Rattle.qpu_shared.specs.declared.pending.Pending.{Pending}
 use Rattle.qpu_shared.specs.SharedState.{SharedState}
 use Rattle.qpu_shared.specs.Exec.{Does}
 use Rattle.qpu_shared.specs.Instruction.{first_cause, instruction_result, outcome_of, outcome_under, is_going, is_running, instruction, pending_of}
 use Rattle.qpu_machine.specs.declared.actor.Actor.TheVariants.{Exec}
 use Rattle.qpu_machine.specs.Machine.{MachineState, processor_of, words_of, with_both, after_outcome, after_step}
-use Rattle.qpu_machine.specs.Kept.{IsOnPath, IsKept, KeepsPath}
+use Rattle.qpu_machine.specs.Kept.{IsOnPath, IsKept, HasFewLooks, KeepsPath}
 use Rattle.qpu_machine.specs.Sound.{IsStarted, IsStartedAt, IsSoundMachine}
 
 -- what a word of a running processor comes to in the machine
@@ -77,10 +78,16 @@ pub sound_after : (m : MachineState) (q : ℕ) (p after : ProcessorState) (left 
 sound_after m q p after left sound low there runs keeps = record {
   limit = sound.limit;
   pending = keeps.room ∙ sound.pending;
+  looks = λ r. few_or_other m q left sound keeps.few keeps.others r (cases_eq r q);
   processors = length-set m.processors q (Some after) ∙ sound.processors;
   each = λ r few. at_or_other m q p after left sound low there runs keeps r few (cases_eq r q);
 }
   where
+    few_or_other : (m : MachineState) (q : ℕ) (left : SharedState) → IsSoundMachine m → HasFewLooks (pending_of left q).looks
+        → ((other : ℕ) → other ≢ q → pending_of left other ≡ pending_of m.shared other) → (r : ℕ) → (r ≡ q) ⊎ (r ≢ q) → HasFewLooks (pending_of left r).looks
+    few_or_other m q left sound few others r (inl same) = subst (λ s. HasFewLooks (pending_of left s).looks) (sym same) few
+    few_or_other m q left sound few others r (inr apart) = subst (λ (x : Pending). HasFewLooks x.looks) (sym (others r apart)) (sound.looks r)
+
     executed_less : (m : MachineState) (p : ProcessorState) → is_running m.limit p ≡ true → p.executed < m.limit
     executed_less m p runs = grind (arith, nat_tests)
 
@@ -123,6 +130,9 @@ same_count code p looks looks' first second kept going =
       looks1 = second ∙ on.looks1;
     }
 
+same_few : (looks looks' : LookupsState) → length looks'.looks0 ≡ length looks.looks0 → length looks'.looks1 ≡ length looks.looks1 → HasFewLooks looks → HasFewLooks looks'
+same_few looks looks' first second few = let a = few.0 in let b = few.1 in (omega (arith, first, a), omega (arith, second, b))
+
 -- what is shared is replaced, with as many look-ups outstanding for each processor
 pub sound_moved : (m : MachineState) (left : SharedState) → IsSoundMachine m → length left.pending ≡ length m.shared.pending
     → ((r : ℕ) → (length (pending_of left r).looks.looks0 ≡ length (pending_of m.shared r).looks.looks0) × (length (pending_of left r).looks.looks1 ≡ length (pending_of m.shared r).looks.looks1))
@@ -130,6 +140,7 @@ pub sound_moved : (m : MachineState) (left : SharedState) → IsSoundMachine m �
 sound_moved m left sound room counts = record {
   limit = sound.limit;
   pending = room ∙ sound.pending;
+  looks = λ r. same_few (pending_of m.shared r).looks (pending_of left r).looks (counts r).0 (counts r).1 (sound.looks r);
   processors = sound.processors;
   each = λ r few.
       other_started m (record m { shared = left }) r (processor_of m r) refl refl refl

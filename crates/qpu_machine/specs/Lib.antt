@@ -11,3 +11,5 @@ pub mod Took
 pub mod Journal
 pub mod Still
 pub mod Local
+pub mod Bound
+pub mod Gains

@@ -9,6 +9,7 @@ mod laws;
 mod machine;
 mod opening;
 mod putting;
+mod serial;
 mod start;
 mod stepping;
 mod stretching;
