@@ -38,7 +38,7 @@ use Rattle.qpu_machine.proofs.ScheduleLemmas.{StepsExec, steps_exec, keeps_exec,
 other_than : (q n : ℕ) → n < q → n ≢ q
 other_than q n less = λ (same : n ≡ q). absurd (omega (arith, less, same))
 
-sum_same : (f g : ℕ → ℕ) (q n : ℕ) → n ≤ q → ((r : ℕ) → r ≢ q → g r ≡ f r) → sum_below g n ≡ sum_below f n
+pub sum_same : (f g : ℕ → ℕ) (q n : ℕ) → n ≤ q → ((r : ℕ) → r ≢ q → g r ≡ f r) → sum_below g n ≡ sum_below f n
 sum_same f g q zero most same = refl
 sum_same f g q (suc n) most same =
     let rest = sum_same f g q n (omega (arith, most)) same in let last = same n (other_than q n (omega (arith, most))) in omega (arith, rest, last)
@@ -135,7 +135,7 @@ less_by limit is_link word p h after left Stepped runs there steps does = less_d
 less_by limit is_link word p h after left (ItAwaits cause) runs there steps does = absurd (cc)
 less_by limit is_link word p h after left (ItFaulted kind) runs there steps does = rw (does.1, does.2) (record { instructions = left_halted limit p kind runs; moves = omega arith })
 
-less_exec : (m : MachineState) (q : ℕ) (n : MachineState) → IsSoundMachine m → (x : StepsExec m q n) → LeavesLess m.limit q x.p m.shared x.after x.left
+pub less_exec : (m : MachineState) (q : ℕ) (n : MachineState) → IsSoundMachine m → (x : StepsExec m q n) → LeavesLess m.limit q x.p m.shared x.after x.left
 less_exec m q n sound x =
     let few = there_few m q x.p sound x.there in
     let number : x.p.q ≡ q = (started_there m q x.p sound x.there).number in
@@ -264,7 +264,7 @@ waiting_most : (looks : List LookUp) → waiting looks ≤ length looks
 waiting_most [] = omega arith
 waiting_most (look ∷ more) = let rest = waiting_most more in let first = one_most (is_waiting look) in omega (arith, rest, first)
 
-instructions_most : (limit : ℕ) (o : Option ProcessorState) → instructions_left limit o ≤ limit
+pub instructions_most : (limit : ℕ) (o : Option ProcessorState) → instructions_left limit o ≤ limit
 instructions_most limit None = omega arith
 instructions_most limit (Some p) = let most = left_most limit p in omega (arith, most)
 

@@ -15,3 +15,6 @@ pub mod LocalLemmas
 pub mod PendingLemmas
 pub mod BoundLemmas
 pub mod SerialLemmas
+pub mod TrailLemmas
+pub mod AtRestLaw
+pub mod OpeningLaw

@@ -13,3 +13,6 @@ pub mod Still
 pub mod Local
 pub mod Bound
 pub mod Gains
+pub mod Opening
+pub mod Trails
+pub mod AtRest

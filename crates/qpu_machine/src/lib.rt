@@ -20,7 +20,10 @@ mod tests;
 pub use actor::Actor;
 pub use conclusion::Ending;
 pub use journal::{Journal, Run};
-pub use laws::{journal_spells, one_serial_schedule};
+pub use laws::{
+    final_machines_rest, journal_spells, one_serial_schedule, running_out_is_at_the_limit,
+    schedules_are_bounded, traces_are_paths, traces_go_on_paths,
+};
 pub use machine::Machine;
 pub use start::Start;
 pub use stretching::stretch;

@@ -1,0 +1,29 @@
+-- What a machine before any step is made of, and the most that it can do. This project's own.
+use Rattle.std.specs.Prelude.{◌<◌, ◌≤◌, ℕ, ◌*◌, List, All, length, slice_index_or, []}
+use Rattle.qpu_word.specs.declared.code.TheConstants.{PROCESSORS, LIMIT_MOST}
+use Rattle.qpu_hazard.specs.Paths.{IsClean}
+use Rattle.qpu_machine.specs.declared.actor.Actor.{Actor}
+use Rattle.qpu_machine.specs.declared.start.Start.{Start}
+use Rattle.qpu_machine.specs.Machine.{MachineState, machine_of}
+use Rattle.qpu_machine.specs.Schedule.{After}
+use Rattle.qpu_machine.specs.Bound.{instructions_of}
+
+-- a limit, programs and starts that a machine may open with: no path of a program breaks a rule,
+-- and each start is of one of the processors and one of the programs
+pub record MayOpen (limit : ℕ) (programs : List (List ℕ)) (starts : List Start) : Type 0 where
+  pub limited : limit ≤ LIMIT_MOST
+  pub numbers : All (λ s. s.q < PROCESSORS) starts
+  pub there : All (λ s. s.program < length programs) starts
+  pub clean : (at : ℕ) → at < length programs → IsClean (slice_index_or programs at [])
+
+-- a schedule has at most the limit of instructions for each processor, and for each start three
+-- steps for each of these: the instruction, and the two moves that it can make pending
+pub record IsBounded (limit started : ℕ) (s : List Actor) : Type 0 where
+  pub instructions : (q : ℕ) → instructions_of s q ≤ limit
+  pub steps : length s ≤ 3 * limit * started
+
+-- each schedule that is permitted from a machine before any step is bounded
+abbrev pub BoundsSchedules : Type 0
+BoundsSchedules =
+    (memory : List ℕ) (limit : ℕ) (programs : List (List ℕ)) (starts : List Start) (s : List Actor) (n : MachineState)
+    → MayOpen limit programs starts → After (machine_of memory limit programs starts) s n → IsBounded limit (length starts) s
