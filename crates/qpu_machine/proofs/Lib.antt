@@ -8,6 +8,7 @@ pub mod WordLemmas
 pub mod SoundLemmas
 pub mod MovedLemmas
 pub mod OpeningLemmas
+pub mod StartLemmas
 pub mod JournalLemmas
 pub mod EndingLemmas
 pub mod ScheduleLemmas

@@ -25,6 +25,7 @@ use Rattle.qpu_machine.specs.Bound.{instructions_left, moves_pending, steps_left
 use Rattle.qpu_machine.specs.Opening.{MayOpen, BoundsSchedules}
 use Rattle.qpu_machine.proofs.AloneLemmas.{nobody_pending}
 use Rattle.qpu_machine.proofs.OpeningLemmas.{sound_unstarted, sound_started}
+use Rattle.qpu_machine.proofs.StartLemmas.{nobody_there}
 use Rattle.qpu_machine.proofs.BoundLemmas.{sum_same, steps_bounded, less_exec, instructions_most}
 use Rattle.qpu_machine.proofs.ScheduleLemmas.{steps_exec, steps_load, steps_store, steps_fetch, there_low, sound_step}
 use Rattle.qpu_machine.proofs.TrailLemmas.{goes_on_paths}
@@ -64,14 +65,9 @@ none_sum : (f : ℕ → ℕ) (n : ℕ) → ((r : ℕ) → f r ≡ 0) → sum_bel
 none_sum f zero each = refl
 none_sum f (suc n) each = let rest = none_sum f n each in let last = each n in omega (arith, rest, last)
 
-nobody : (n q : ℕ) → slice_index_or (replicate n (let o : Option ProcessorState = None in o)) q None ≡ None
-nobody zero q = refl
-nobody (suc n) zero = refl
-nobody (suc n) (suc q) = nobody n q
-
 none_left : (memory : List ℕ) (limit : ℕ) (programs : List (List ℕ)) (q : ℕ) → steps_left_of (unstarted_of memory limit programs) q ≡ 0
 none_left memory limit programs q =
-    let processor = ap (instructions_left limit) (nobody 12 q) in let pending = ap moves_pending (nobody_pending memory q) in omega (arith, processor, pending)
+    let processor = ap (instructions_left limit) (nobody_there 12 q) in let pending = ap moves_pending (nobody_pending memory q) in omega (arith, processor, pending)
 
 unstarted_left : (memory : List ℕ) (limit : ℕ) (programs : List (List ℕ)) → steps_left (unstarted_of memory limit programs) ≡ 0
 unfolding steps_left
@@ -149,7 +145,7 @@ counts started n m is = omega (arith, is)
 
 opened_all : (memory : List ℕ) (limit : ℕ) (programs : List (List ℕ)) (starts : List Start) (started : ℕ) (m : MachineState) → Opened memory limit programs started m
     → All (λ (s : Start). s.q < 12) starts → All (λ (s : Start). s.program < length programs) starts
-    → ((at : ℕ) → at < length programs → IsClean (slice_index_or programs at [])) → Opened memory limit programs (started + length starts) (fold with_start m starts)
+    → All (λ (s : Start). IsClean (slice_index_or programs s.program [])) starts → Opened memory limit programs (started + length starts) (fold with_start m starts)
 opened_all memory limit programs [] started m is numbers there clean = subst (λ k. Opened memory limit programs k m) (sym (nothing_more started)) is
   where
     nothing_more : (n : ℕ) → n + 0 ≡ n
@@ -157,8 +153,9 @@ opened_all memory limit programs [] started m is numbers there clean = subst (λ
 opened_all memory limit programs (start ∷ more) started m is numbers there clean =
     subst (λ k. Opened memory limit programs k (fold with_start (with_start m start) more)) (counts started _ (length more) refl)
     (opened_all memory limit programs more (started + 1) (with_start m start)
-    (opened_start memory limit programs started m start is (numbers 0 start (omega arith)) (there 0 start (omega arith)) (clean start.program (there 0 start (omega arith))))
-    (all_rest (λ (s : Start). s.q < 12) start more numbers) (all_rest (λ (s : Start). s.program < length programs) start more there) clean)
+    (opened_start memory limit programs started m start is (numbers 0 start (omega arith)) (there 0 start (omega arith)) (clean 0 start (omega arith)))
+    (all_rest (λ (s : Start). s.q < 12) start more numbers) (all_rest (λ (s : Start). s.program < length programs) start more there)
+    (all_rest (λ (s : Start). IsClean (slice_index_or programs s.program [])) start more clean))
 
 opened_of : (memory : List ℕ) (limit : ℕ) (programs : List (List ℕ)) (starts : List Start) → MayOpen limit programs starts
     → Opened memory limit programs (length starts) (machine_of memory limit programs starts)
@@ -174,7 +171,7 @@ opened_of memory limit programs starts may =
       shared = refl;
       room = refl;
       left = omega (arith, none);
-      stands = λ q p at. let absent = nobody 12 q in absurd (some_none p (sym at ∙ absent));
+      stands = λ q p at. let absent = nobody_there 12 q in absurd (some_none p (sym at ∙ absent));
     })
     may.numbers may.there may.clean)
   where

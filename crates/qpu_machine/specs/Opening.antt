@@ -1,5 +1,6 @@
 -- What a machine before any step is made of, and the most that it can do. This project's own.
-use Rattle.std.specs.Prelude.{◌<◌, ◌≤◌, ℕ, ◌*◌, List, All, length, slice_index_or, []}
+use Rattle.std.specs.Prelude.{◌≢◌, ◌<◌, ◌≤◌, ℕ, ◌*◌, List, All, length, slice_index_or, []}
+use Rattle.std.specs.List.{AllPairs}
 use Rattle.qpu_word.specs.declared.code.TheConstants.{PROCESSORS, LIMIT_MOST}
 use Rattle.qpu_hazard.specs.Paths.{IsClean}
 use Rattle.qpu_machine.specs.declared.actor.Actor.{Actor}
@@ -8,13 +9,14 @@ use Rattle.qpu_machine.specs.Machine.{MachineState, machine_of}
 use Rattle.qpu_machine.specs.Schedule.{After}
 use Rattle.qpu_machine.specs.Bound.{instructions_of}
 
--- a limit, programs and starts that a machine may open with: no path of a program breaks a rule,
--- and each start is of one of the processors and one of the programs
+-- a limit, programs and starts that a machine may open with: the starts are of different processors
+-- and of programs of the list, no path of which breaks a rule
 pub record MayOpen (limit : ℕ) (programs : List (List ℕ)) (starts : List Start) : Type 0 where
   pub limited : limit ≤ LIMIT_MOST
   pub numbers : All (λ s. s.q < PROCESSORS) starts
   pub there : All (λ s. s.program < length programs) starts
-  pub clean : (at : ℕ) → at < length programs → IsClean (slice_index_or programs at [])
+  pub differ : AllPairs (λ s t. s.q ≢ t.q) starts
+  pub clean : All (λ s. IsClean (slice_index_or programs s.program [])) starts
 
 -- a schedule has at most the limit of instructions for each processor, and for each start three
 -- steps for each of these: the instruction, and the two moves that it can make pending

@@ -1,9 +1,10 @@
 -- What a machine keeps in its type. This project's own.
-use Rattle.std.specs.Prelude.{◌≡◌, ◌<◌, ◌≤◌, ℕ, length, Option, Some, None, slice_index}
+use Rattle.std.specs.Prelude.{◌≡◌, ◌<◌, ◌≤◌, ◌==◌, ℕ, List, length, Option, Some, None, IfSome, is_some, find, slice_index}
 use Rattle.qpu_word.specs.declared.code.TheConstants.{PROCESSORS, LIMIT_MOST}
 use Rattle.qpu_word.specs.Processor.{ProcessorState}
 use Rattle.qpu_shared.specs.Instruction.{pending_of}
 use Rattle.qpu_hazard.specs.Paths.{IsClean}
+use Rattle.qpu_machine.specs.declared.start.Start.{Start}
 use Rattle.qpu_machine.specs.Machine.{MachineState, processor_of, words_of}
 use Rattle.qpu_machine.specs.Kept.{IsKept, HasFewLooks}
 
@@ -29,3 +30,17 @@ pub record IsSoundMachine (m : MachineState) : Type 0 where
   pub looks : (q : ℕ) → HasFewLooks (pending_of m.shared q).looks
   pub processors : length m.processors ≡ PROCESSORS
   pub each : (q : ℕ) → q < PROCESSORS → IsStartedAt m q (processor_of m q)
+
+-- the start of a processor, the first where there are more
+abbrev pub start_in : List Start → ℕ → Option Start
+start_in starts q = find (λ start. start.q == q) starts
+
+-- a processor is there exactly where it has a start, which names its program
+pub record HasStarts (starts : List Start) (m : MachineState) : Type 0 where
+  pub there : (q : ℕ) → is_some (start_in starts q) ≡ is_some (processor_of m q)
+  pub program : (q : ℕ) → IfSome (start_in starts q) (λ start. slice_index m.program_of q ≡ start.program)
+
+-- both
+pub record IsWhole (starts : List Start) (m : MachineState) : Type 0 where
+  pub sound : IsSoundMachine m
+  pub started : HasStarts starts m

@@ -15,7 +15,8 @@ pub(crate) const PROCESSORS: usize = 12;
 
 /// A machine: a limit of instructions, checked programs, up to twelve processors and what they
 /// share. Contracts see its `MachineState` and its starts. Each processor that goes on stands on a
-/// path of its program, which breaks no hazard rule.
+/// path of its program, which breaks no hazard rule; and a processor is there exactly where it has a
+/// start, which names its program.
 #[derive(Debug, Drop)]
 pub struct Machine {
     pub(crate) limit: u32,
@@ -28,13 +29,13 @@ pub struct Machine {
 
 impl Model for Machine {
     ghost use Rattle.qpu_machine.specs.Views.{Started, started_of, state_of};
-    ghost use Rattle.qpu_machine.specs.Sound.{IsSoundMachine};
+    ghost use Rattle.qpu_machine.specs.Sound.{IsWhole};
 
     ghost Value = { Started };
 
     ghost view = { started_of };
 
-    ghost invariant = { λ inside. IsSoundMachine (state_of inside) };
+    ghost invariant = { λ inside. IsWhole inside.starts.items (state_of inside) };
 }
 
 impl Machine {

@@ -17,7 +17,7 @@ pub unreachable-requires : goal.unreachable-requires
 unreachable-requires c =
     let same : c.args.self.now.state ≡ state_of c.self.inside = sym (ap (λ (s : Started). s.state) c.self.view_is) in
     let on =
-    on_running (state_of c.self.inside) c.args.q c.in-Some.processor c.self.invariant c.in-Some.ensures.low
+    on_running (state_of c.self.inside) c.args.q c.in-Some.processor c.self.invariant.sound c.in-Some.ensures.low
     (subst (λ (m : MachineState). processor_of m c.args.q ≡ Some c.in-Some.processor) same c.in-Some.ensures.there)
     (subst (λ (m : MachineState). is_running m.limit c.in-Some.processor ≡ true) same c.in-Some.ensures.runs) in
     let code : c.program_at-program.result.now ≡ words_of (state_of c.self.inside) c.args.q =
@@ -33,7 +33,7 @@ returns c =
     let same : c.args.self.now.state ≡ state_of c.self.inside = sym (ap (λ (s : Started). s.state) c.self.view_is) in
     let there = subst (λ (m : MachineState). processor_of m c.args.q ≡ Some c.in-Some.processor) same c.in-Some.ensures.there in
     let runs = subst (λ (m : MachineState). is_running m.limit c.in-Some.processor ≡ true) same c.in-Some.ensures.runs in
-    let number = number_running (state_of c.self.inside) c.args.q c.in-Some.processor c.self.invariant c.in-Some.ensures.low there in
+    let number = number_running (state_of c.self.inside) c.args.q c.in-Some.processor c.self.invariant.sound c.in-Some.ensures.low there in
     let code : c.program_at-program.result.now ≡ words_of (state_of c.self.inside) c.args.q =
     c.program_at-program.ensures ∙ ap (λ (x : Programs). slice_index_or x.list.items (slice_index c.self.inside.program_of c.args.q) []) c.deref.ensures in
     let word : c.in-Some-word.word.0 ≡ slice_index (words_of (state_of c.self.inside) c.args.q) c.in-Some.processor.place =

@@ -18,7 +18,7 @@ stretch-steps-requires-clause-kept c =
     let code : c.program_at-program.result.now ≡ words_of m c.args.q =
     c.program_at-program.ensures ∙ ap (λ (x : Programs). slice_index_or x.list.items (slice_index c.self.inside.program_of c.args.q) []) c.deref.ensures in
     let looks = (pending_of m.shared c.args.q).looks in
-    (looks, subst (λ words. IsKept words c.in-Some-Some.processor looks) (sym code) (started_there m c.args.q c.in-Some-Some.processor c.self.invariant there).kept)
+    (looks, subst (λ words. IsKept words c.in-Some-Some.processor looks) (sym code) (started_there m c.args.q c.in-Some-Some.processor c.self.invariant.sound there).kept)
 
 pub returns-clause-few : goal.returns-clause-few
 returns-clause-few c =
@@ -29,4 +29,4 @@ returns-clause-few c =
     c.program_at-program.ensures ∙ ap (λ (x : Programs). slice_index_or x.list.items (slice_index c.self.inside.program_of c.args.q) []) c.deref.ensures in
     let steps = subst (λ words. LocalSteps words m.limit c.in-Some-Some.processor c.stretch-steps.result c.stretch-steps.new.processor) code c.stretch-steps.ensures.steps in
     subst (λ (x : MachineState). c.stretch-steps.result ≤ steps_left x) (sym same)
-    (few_local m c.args.q c.in-Some-Some.processor c.stretch-steps.result c.stretch-steps.new.processor c.self.invariant there steps)
+    (few_local m c.args.q c.in-Some-Some.processor c.stretch-steps.result c.stretch-steps.new.processor c.self.invariant.sound there steps)
