@@ -17,5 +17,6 @@ pub mod PendingLemmas
 pub mod BoundLemmas
 pub mod SerialLemmas
 pub mod TrailLemmas
+pub mod RunLaw
 pub mod AtRestLaw
 pub mod OpeningLaw

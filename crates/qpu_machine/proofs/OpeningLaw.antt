@@ -1,33 +1,27 @@
 -- Machines before any step: they are sound, and bound each schedule.
-use Rattle.std.proofs.Common.{◌≡◌, ◌≢◌, ◌<◌, ◌≤◌, ◌+◌, ◌*◌, ℕ, zero, suc, Bool, true, false, List, [], ◌∷◌, reverse, length, replicate, fold, Option, Some, None, ◌⊎◌, inl, inr, refl, sym, subst, ap, ◌∙◌, append-nil, arith}
-use Rattle.std.specs.Prelude.{◌==◌, All, slice_index_or}
+use Rattle.std.proofs.Common.{◌≡◌, ◌≢◌, ◌<◌, ◌≤◌, ◌+◌, ◌*◌, ℕ, zero, suc, List, [], ◌∷◌, reverse, length, replicate, fold, Option, Some, None, ◌⊎◌, inl, inr, refl, sym, subst, ap, ◌∙◌, append-nil, arith}
+use Rattle.std.specs.Prelude.{All, slice_index_or}
 use Rattle.std.proofs.Math.ListN.{length-set}
 use Rattle.std.proofs.lemmas.Bool.{cases_eq}
-use Rattle.std.proofs.lemmas.Bool.Decides.{nat_tests}
 use Rattle.std.proofs.lemmas.List.{get_or-set_same, get_or-set_other}
 use Rattle.qpu_word.specs.Processor.{ProcessorState, opening_processor}
 use Rattle.qpu_shared.specs.SharedState.{SharedState, opening_shared}
 use Rattle.qpu_shared.specs.Instruction.{pending_of}
-use Rattle.qpu_hazard.specs.Demands.{one}
 use Rattle.qpu_hazard.specs.Paths.{IsClean}
 use Rattle.qpu_hazard.specs.Standing.{ProcessorStands}
 use Rattle.qpu_hazard.proofs.ProcessorLemmas.{processor_opens}
-use Rattle.qpu_machine.specs.declared.actor.Actor.{Actor}
-use Rattle.qpu_machine.specs.declared.actor.Actor.TheVariants.{Exec, Load, Store, Fetch}
 use Rattle.qpu_machine.specs.declared.start.Start.{Start}
-use Rattle.qpu_machine.specs.Machine.{MachineState, processor_of, words_of, with_start, with_both, machine_of, Step}
-use Rattle.qpu_machine.specs.Journal.{is_same_actor}
+use Rattle.qpu_machine.specs.Machine.{MachineState, processor_of, words_of, with_start, machine_of}
 use Rattle.qpu_machine.specs.Sound.{IsSoundMachine}
-use Rattle.qpu_machine.specs.Schedule.{After, here, next}
 use Rattle.qpu_machine.specs.Trace.{trace_of}
 use Rattle.qpu_machine.specs.Trails.{ComesFrom, IsCleanPath, TracesArePaths}
-use Rattle.qpu_machine.specs.Bound.{instructions_left, moves_pending, steps_left_of, sum_below, steps_left, instructions_of}
-use Rattle.qpu_machine.specs.Opening.{MayOpen, BoundsSchedules}
+use Rattle.qpu_machine.specs.Bound.{instructions_left, moves_pending, steps_left_of, sum_below, steps_left}
+use Rattle.qpu_machine.specs.Opening.{MayOpen, OpensSound, BoundsSchedules}
 use Rattle.qpu_machine.proofs.AloneLemmas.{nobody_pending}
 use Rattle.qpu_machine.proofs.OpeningLemmas.{sound_unstarted, sound_started}
 use Rattle.qpu_machine.proofs.StartLemmas.{nobody_there}
-use Rattle.qpu_machine.proofs.BoundLemmas.{sum_same, steps_bounded, less_exec, instructions_most}
-use Rattle.qpu_machine.proofs.ScheduleLemmas.{steps_exec, steps_load, steps_store, steps_fetch, there_low, sound_step}
+use Rattle.qpu_machine.proofs.BoundLemmas.{sum_same, steps_bounded, instructions_most}
+use Rattle.qpu_machine.proofs.RunLaw.{instructions_bounded}
 use Rattle.qpu_machine.proofs.TrailLemmas.{goes_on_paths}
 
 -- the machine without processors
@@ -181,51 +175,8 @@ opened_of memory limit programs starts may =
     some_none : (a : ProcessorState) → ◌≡◌ {A = Option ProcessorState} (Some a) None → ⊥
     some_none a e = cc
 
-pub sound_opening : (memory : List ℕ) (limit : ℕ) (programs : List (List ℕ)) (starts : List Start) → MayOpen limit programs starts
-    → IsSoundMachine (machine_of memory limit programs starts)
+pub sound_opening : OpensSound
 sound_opening memory limit programs starts may = (opened_of memory limit programs starts may).sound
-
--- instructions of one processor
-
-apart_test : (r q : ℕ) → r ≢ q → (r == q) ≡ false
-apart_test r q apart = grind (arith, nat_tests)
-
-one_or_none : (b : Bool) → one b ≤ 1
-one_or_none true = omega arith
-one_or_none false = omega arith
-
-instruction_less : (m : MachineState) (r q : ℕ) (n : MachineState) → IsSoundMachine m → Step m (Exec r) n → (r ≡ q) ⊎ (r ≢ q)
-    → one (r == q) + instructions_left n.limit (processor_of n q) ≤ instructions_left m.limit (processor_of m q)
-instruction_less m r q n sound steps (inl same) =
-    let x = steps_exec m r n sound steps in
-    let less = (less_exec m r n sound x).instructions in
-    let now = ap (instructions_left m.limit) (get_or-set_same m.processors r (Some x.after) None (there_low m r x.p sound x.there)) in
-    let before = ap (instructions_left m.limit) x.there in
-    let few = one_or_none (r == q) in
-    subst (λ (k : MachineState). one (r == q) + instructions_left k.limit (processor_of k q) ≤ instructions_left m.limit (processor_of m q)) (sym x.is)
-    (subst (λ k. one (r == q) + instructions_left m.limit (processor_of (with_both m r x.after x.left) k) ≤ instructions_left m.limit (processor_of m k)) same
-    (omega (arith, less, now, before, few)))
-instruction_less m r q n sound steps (inr apart) =
-    let x = steps_exec m r n sound steps in
-    let off = ap one (apart_test r q apart) in
-    let same = ap (instructions_left m.limit) (get_or-set_other m.processors r q (Some x.after) None (λ e. apart (sym e))) in
-    subst (λ (k : MachineState). one (r == q) + instructions_left k.limit (processor_of k q) ≤ instructions_left m.limit (processor_of m q)) (sym x.is) (omega (arith, off, same))
-
-step_instructions : (m : MachineState) (actor : Actor) (q : ℕ) (n : MachineState) → IsSoundMachine m → Step m actor n
-    → one (is_same_actor actor (Exec q)) + instructions_left n.limit (processor_of n q) ≤ instructions_left m.limit (processor_of m q)
-step_instructions m (Exec r) q n sound steps = instruction_less m r q n sound steps (cases_eq r q)
-step_instructions m (Load r) q n sound steps =
-    let x = steps_load m r n steps in let same = ap (λ (k : MachineState). instructions_left k.limit (processor_of k q)) x.is in omega (arith, same)
-step_instructions m (Store r) q n sound steps =
-    let x = steps_store m r n steps in let same = ap (λ (k : MachineState). instructions_left k.limit (processor_of k q)) x.is in omega (arith, same)
-step_instructions m (Fetch r unit) q n sound steps =
-    let x = steps_fetch m r unit n steps in let same = ap (λ (k : MachineState). instructions_left k.limit (processor_of k q)) x.is in omega (arith, same)
-
-pub instructions_bounded : {m n : MachineState} {s : List Actor} (q : ℕ) → IsSoundMachine m → After m s n
-    → instructions_of s q + instructions_left n.limit (processor_of n q) ≤ instructions_left m.limit (processor_of m q)
-instructions_bounded q sound here = omega arith
-instructions_bounded {m} q sound (next {n = n} {actor = actor} step more) =
-    let rest = instructions_bounded q (sound_step m actor n sound step) more in let first = step_instructions m actor q n sound step in omega (arith, rest, first)
 
 -- the laws
 

@@ -27,7 +27,7 @@ use Rattle.qpu_machine.specs.Machine.{MachineState, processor_of, words_of, with
 use Rattle.qpu_machine.specs.Schedule.{After, here, next}
 use Rattle.qpu_machine.specs.Sound.{IsSoundMachine}
 use Rattle.qpu_machine.specs.Trace.{executed_by, trace_of}
-use Rattle.qpu_machine.specs.Trails.{ComesFrom, IsCleanPath, TracesGoOnPaths}
+use Rattle.qpu_machine.specs.Trails.{ComesFrom, IsCleanPath}
 use Rattle.qpu_machine.proofs.KeptStep.{parts_of_done}
 use Rattle.qpu_machine.proofs.SoundLemmas.{going_running}
 use Rattle.qpu_machine.proofs.ScheduleLemmas.{StepsExec, steps_exec, steps_load, steps_store, steps_fetch, there_low, started_there, sound_step, is_step}
@@ -152,6 +152,3 @@ goes_on_paths {m} {s = s} q path sound (next {n = n} {actor = actor} {s = rest} 
     turned (executed_by m actor q) (trace_of n rest q) path ∙ ap (λ (t : List ℕ). reverse t ++ path) (sym (trace_next m n actor rest q step)) in
     subst (λ (code : List ℕ). IsCleanPath code (reverse (trace_of m (actor ∷ rest) q) ++ path)) (words_stay m actor q n sound step)
     (subst (IsCleanPath (words_of n q)) turn later)
-
-pub traces_go_on : TracesGoOnPaths
-traces_go_on m n s sound after q path from = goes_on_paths q path sound after from

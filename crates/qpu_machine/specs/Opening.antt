@@ -6,6 +6,7 @@ use Rattle.qpu_hazard.specs.Paths.{IsClean}
 use Rattle.qpu_machine.specs.declared.actor.Actor.{Actor}
 use Rattle.qpu_machine.specs.declared.start.Start.{Start}
 use Rattle.qpu_machine.specs.Machine.{MachineState, machine_of}
+use Rattle.qpu_machine.specs.Sound.{IsSoundMachine}
 use Rattle.qpu_machine.specs.Schedule.{After}
 use Rattle.qpu_machine.specs.Bound.{instructions_of}
 
@@ -17,6 +18,12 @@ pub record MayOpen (limit : ℕ) (programs : List (List ℕ)) (starts : List Sta
   pub there : All (λ s. s.program < length programs) starts
   pub differ : AllPairs (λ s t. s.q ≢ t.q) starts
   pub clean : All (λ s. IsClean (slice_index_or programs s.program [])) starts
+
+-- a machine before any step is sound
+abbrev pub OpensSound : Type 0
+OpensSound =
+    (memory : List ℕ) (limit : ℕ) (programs : List (List ℕ)) (starts : List Start) → MayOpen limit programs starts
+    → IsSoundMachine (machine_of memory limit programs starts)
 
 -- a schedule has at most the limit of instructions for each processor, and for each start three
 -- steps for each of these: the instruction, and the two moves that it can make pending

@@ -8,7 +8,6 @@ use Rattle.qpu_machine.specs.declared.actor.Actor.{Actor}
 use Rattle.qpu_machine.specs.declared.start.Start.{Start}
 use Rattle.qpu_machine.specs.Machine.{MachineState, machine_of, processor_of, words_of}
 use Rattle.qpu_machine.specs.Schedule.{After}
-use Rattle.qpu_machine.specs.Sound.{IsSoundMachine}
 use Rattle.qpu_machine.specs.Trace.{trace_of}
 use Rattle.qpu_machine.specs.Opening.{MayOpen}
 
@@ -29,12 +28,7 @@ pub record IsCleanPath (code path : List ℕ) : Type 0 where
 abbrev pub GoesOnPaths : MachineState → List Actor → Type 0
 GoesOnPaths m s = (q : ℕ) (path : List ℕ) → ComesFrom m q path → IsCleanPath (words_of m q) (reverse (trace_of m s q) ++ path)
 
--- so it is with each permitted schedule of a machine
-abbrev pub TracesGoOnPaths : Type 0
-TracesGoOnPaths = (m n : MachineState) (s : List Actor) → IsSoundMachine m → After m s n → GoesOnPaths m s
-
--- and the trace of each processor that was started, from a machine before any step on, is itself
--- such a path
+-- from a machine before any step on, the trace of each processor that was started is such a path
 abbrev pub TracesArePaths : Type 0
 TracesArePaths =
     (memory : List ℕ) (limit : ℕ) (programs : List (List ℕ)) (starts : List Start) (s : List Actor) (n : MachineState) → MayOpen limit programs starts

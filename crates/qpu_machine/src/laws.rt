@@ -1,7 +1,8 @@
 ghost use Rattle.qpu_machine.specs.OneSerial.{HasOneSerialSchedule};
 ghost use Rattle.qpu_machine.specs.Journal.{SpellsMore};
-ghost use Rattle.qpu_machine.specs.Trails.{TracesGoOnPaths, TracesArePaths};
-ghost use Rattle.qpu_machine.specs.Opening.{BoundsSchedules};
+ghost use Rattle.qpu_machine.specs.Trails.{TracesArePaths};
+ghost use Rattle.qpu_machine.specs.Opening.{OpensSound, BoundsSchedules};
+ghost use Rattle.qpu_machine.specs.Gains.{SchedulesRun};
 ghost use Rattle.qpu_machine.specs.AtRest.{FinalIsAtRest, RunsOutAtLimit};
 
 /// A law: a machine has one serial schedule, and it leads to one machine.
@@ -17,11 +18,19 @@ pub fn journal_spells()
     ensures { SpellsMore }
 {}
 
-/// A law: the words that a permitted schedule executes for a processor go on the path that it comes
-/// from, and break no rule. So no step reads an undefined result.
-#[tactic(auto, using(crate::proofs::TrailLemmas::traces_go_on))]
-pub fn traces_go_on_paths()
-    ensures { TracesGoOnPaths }
+/// A law: each permitted schedule of a sound machine leaves it sound. It has no more steps than the
+/// machine had left, and of each processor no more instructions; the words that it executes for a
+/// processor go on the path that the processor comes from and break no rule, so no step reads an
+/// undefined result.
+#[tactic(auto, using(crate::proofs::RunLaw::schedules_run))]
+pub fn schedules_run()
+    ensures { SchedulesRun }
+{}
+
+/// A law: a machine before any step is sound.
+#[tactic(auto, using(crate::proofs::OpeningLaw::sound_opening))]
+pub fn opening_is_sound()
+    ensures { OpensSound }
 {}
 
 /// A law: from a machine before any step on, each trace is a path of its program and breaks no rule.

@@ -21,8 +21,8 @@ pub use actor::Actor;
 pub use conclusion::Ending;
 pub use journal::{Journal, Run};
 pub use laws::{
-    final_machines_rest, journal_spells, one_serial_schedule, running_out_is_at_the_limit,
-    schedules_are_bounded, traces_are_paths, traces_go_on_paths,
+    final_machines_rest, journal_spells, one_serial_schedule, opening_is_sound,
+    running_out_is_at_the_limit, schedules_are_bounded, schedules_run, traces_are_paths,
 };
 pub use machine::Machine;
 pub use start::Start;

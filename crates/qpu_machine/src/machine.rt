@@ -1,6 +1,7 @@
 //! The machine as one value.
 ghost use Rattle.std.specs.Prelude.{◌≡◌, option_map};
 ghost use Rattle.qpu_machine.specs.Machine.{processor_of};
+ghost use Rattle.qpu_machine.specs.Sound.{IsSoundMachine};
 
 use crate::start::Start;
 use arrayvec::ArrayVec;
@@ -39,6 +40,14 @@ impl Model for Machine {
 }
 
 impl Machine {
+    /// Does nothing: its clause tells what the type of a machine keeps, so that the laws of schedules
+    /// hold of it.
+    pub fn keeps(&self)
+        ensures { IsSoundMachine self.now.state }
+    {
+        let _limit = self.limit;
+    }
+
     /// The limit of instructions of each processor, at most 1,000,000.
     pub fn limit(&self) -> u32
         ensures { result ≡ self.now.state.limit }

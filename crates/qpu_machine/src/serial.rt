@@ -3,10 +3,10 @@ ghost use Rattle.std.specs.Prelude.{◌≡◌, ◌≤◌, ◌<◌, ◌+◌, ◌^
 ghost use Rattle.qpu_machine.specs.Machine.{processor_of, words_of};
 ghost use Rattle.qpu_machine.specs.Schedule.{After};
 ghost use Rattle.qpu_machine.specs.Ending.{IsFinal, ending_of};
+ghost use Rattle.qpu_machine.specs.AtRest.{IsAtRest};
 ghost use Rattle.qpu_machine.specs.Journal.{steps_in};
 ghost use Rattle.qpu_machine.specs.Serial.{Tried, InTurn, Turned, tries_of, Stretch, Round, SerialSchedule};
 ghost use Rattle.qpu_machine.specs.Local.{IsOwnAfter, is_local_next};
-ghost use Rattle.qpu_machine.specs.Sound.{IsSoundMachine};
 ghost use Rattle.qpu_machine.specs.Bound.{steps_left};
 ghost use Rattle.qpu_machine.specs.Gains.{Gained, IsRun};
 
@@ -42,13 +42,6 @@ fn tries(q: u32) -> [Actor; 5]
 }
 
 impl Machine {
-    /// What the type of a machine keeps.
-    fn keeps(&self)
-        ensures { IsSoundMachine self.now.state }
-    {
-        let _limit = self.limit;
-    }
-
     /// Processor q after its local words, which the machine doesn't take.
     fn stretched(&self, q: u32) -> Option<Stretched>
         ensures own { IfSome result (λ x. IsOwnAfter self.now.state q x.processor x.steps) }
@@ -153,6 +146,7 @@ impl Machine {
         requires { steps_in journal.old < 2 ^ 63 }
         ensures serial { OnOk result (Gained journal.old journal.new (λ s. SerialSchedule self.old.state s self.new.state × IsRun self.old.state s self.new.state)) }
         ensures stands { OnOk result (IsFinal self.new.state) }
+        ensures rests { OnOk result (IsAtRest self.new.state) }
         ensures ending { IfOk result (λ ending. ending ≡ ending_of self.new.state) }
         ensures refused { OnErr result (Gained journal.old journal.new (λ s. IsRun self.old.state s self.new.state)) }
         ensures starts { self.new.starts ≡ self.old.starts }
