@@ -44,7 +44,7 @@ at_default (suc n) zero a = refl
 at_default (suc n) (suc i) a = at_default n i a
 
 -- nobody has anything pending
-nobody_pending : (memory : List ℕ) (q : ℕ) → pending_of (opening_shared memory) q ≡ nothing_pending
+pub nobody_pending : (memory : List ℕ) (q : ℕ) → pending_of (opening_shared memory) q ≡ nothing_pending
 unfolding opening_shared
 nobody_pending memory q = at_default PROCESSORS q nothing_pending
 

@@ -51,7 +51,7 @@ moves_of m q is =
 
 -- no actor has a step
 
-none_of : {A : Type 0} (o : Option A) → is_some o ≡ false → o ≡ None
+pub none_of : {A : Type 0} (o : Option A) → is_some o ≡ false → o ≡ None
 none_of None is = refl
 none_of (Some a) is = absurd (cc)
 

@@ -73,21 +73,21 @@ some_lanes_first : (first : Bool) (mul : List ℕ) (rest : Option (List ℕ)) �
 some_lanes_first first mul rest is = rw is refl
 
 -- of the mul unit
-record IssuesMul (f : Fields) : Type 0 where
+pub record IssuesMul (f : Fields) : Type 0 where
   pub mul : (mul_writes f && is_look_address f.waddr_mul) ≡ true
 
 -- of the add unit, where the mul unit issues none
-record IssuesAdd (f : Fields) : Type 0 where
+pub record IssuesAdd (f : Fields) : Type 0 where
   pub mul : (mul_writes f && is_look_address f.waddr_mul) ≡ false
   pub add : (add_writes f && is_look_address f.waddr_add) ≡ true
 
 -- of neither
-record IssuesNone (f : Fields) : Type 0 where
+pub record IssuesNone (f : Fields) : Type 0 where
   pub mul : (mul_writes f && is_look_address f.waddr_mul) ≡ false
   pub add : (add_writes f && is_look_address f.waddr_add) ≡ false
 
 -- a word is one of the three
-by_issue : (f : Fields) (P : Type 0) → (IssuesMul f → P) → (IssuesAdd f → P) → (IssuesNone f → P) → P
+pub by_issue : (f : Fields) (P : Type 0) → (IssuesMul f → P) → (IssuesAdd f → P) → (IssuesNone f → P) → P
 by_issue f P mul add none = by_tests (mul_writes f && is_look_address f.waddr_mul) (add_writes f && is_look_address f.waddr_add) refl refl
   where
     by_tests : (m a : Bool) → (mul_writes f && is_look_address f.waddr_mul) ≡ m → (add_writes f && is_look_address f.waddr_add) ≡ a → P
@@ -117,7 +117,7 @@ add_there : (f : Fields) (add mul : List ℕ) → IssuesAdd f → is_some (as_la
 unfolding sent_to
 add_there f add mul is = rw (add_address f is) (some_lanes _ _ add mul (writes_itself (add_writes f) f.waddr_add is.add))
 
-none_there : (f : Fields) (add mul : List ℕ) → IssuesNone f → is_some (as_lanes (sent_to f add mul (look_address f))) ≡ false
+pub none_there : (f : Fields) (add mul : List ℕ) → IssuesNone f → is_some (as_lanes (sent_to f add mul (look_address f))) ≡ false
 none_there f add mul is = rw (no_address f is, nothing_nowhere f add mul) refl
 
 -- where the mul unit issues one, the add unit issues none
@@ -163,15 +163,15 @@ made_is f add mul unit low few =
 
 -- what an instruction sends is what starts
 
-ok_same : (a b : Starts) → ◌≡◌ {A = Result Starts FaultKind} (Ok a) (Ok b) → a ≡ b
+pub ok_same : (a b : Starts) → ◌≡◌ {A = Result Starts FaultKind} (Ok a) (Ok b) → a ≡ b
 ok_same a b e = cc
 
 -- one step after another came to its end, so both did
-through : {A B P : Type 0} (r : Result A FaultKind) (next : A → Result B FaultKind) (b : B) → ((a : A) → r ≡ Ok a → next a ≡ Ok b → P) → then_after r next ≡ Ok b → P
+pub through : {A B P : Type 0} (r : Result A FaultKind) (next : A → Result B FaultKind) (b : B) → ((a : A) → r ≡ Ok a → next a ≡ Ok b → P) → then_after r next ≡ Ok b → P
 through (Ok a) next b k e = k a refl e
 through (Err kind) next b k e = absurd (cc)
 
-ok_look : (a b : Option Lanes) → ◌≡◌ {A = Result (Option Lanes) FaultKind} (Ok a) (Ok b) → is_some b ≡ is_some a
+pub ok_look : (a b : Option Lanes) → ◌≡◌ {A = Result (Option Lanes) FaultKind} (Ok a) (Ok b) → is_some b ≡ is_some a
 ok_look a b e = let same : a ≡ b = cc in ap (λ (o : Option Lanes). is_some o) (sym same)
 
 issued_by : (inside : Bool) (words issued : Option Lanes) → (if inside then Ok words else Err LookUpFault) ≡ Ok issued → is_some issued ≡ is_some words
@@ -182,7 +182,7 @@ issued_same : (look : Option Lanes) (memory : List ℕ) (issued : Option Lanes) 
 issued_same None memory issued e = ok_look None issued e
 issued_same (Some addresses) memory issued e = issued_by (list_all (λ a. nat_lt (a / 4) (length memory)) addresses.v) (Some (word_indexes addresses)) issued e
 
-look_starts : (outs : Outs) (memory : List ℕ) (book : Book) (starts : Starts) → after_writes outs memory book ≡ Ok starts → is_some starts.look ≡ is_some outs.look
+pub look_starts : (outs : Outs) (memory : List ℕ) (book : Book) (starts : Starts) → after_writes outs memory book ≡ Ok starts → is_some starts.look ≡ is_some outs.look
 unfolding after_writes
 look_starts outs memory book starts e =
     through (after_vpm_write outs.vpm book) _ starts (λ b _.

@@ -1,5 +1,5 @@
 -- An instruction of a processor of a clean program keeps that it stands on a path.
-use Rattle.std.proofs.Common.{◌≡◌, ◌<◌, ◌+◌, ℕ, Bool, true, false, List, ◌∷◌, length, Option, Some, None, Result, Ok, Err, refl, subst, ap, ◌∙◌, arith}
+use Rattle.std.proofs.Common.{◌≡◌, ◌<◌, ◌≤◌, ◌+◌, ◌-◌, ℕ, Bool, true, false, List, ◌∷◌, length, Option, Some, None, Result, Ok, Err, refl, subst, ap, ◌∙◌, arith}
 use Rattle.std.specs.Prelude.{slice_index, ◌||◌}
 use Rattle.qpu_hazard.specs.Demands.{sets_flags}
 use Rattle.std.proofs.lemmas.List.{get_or-set_same}
@@ -25,7 +25,7 @@ use Rattle.qpu_hazard.specs.Standing.{ProcessorGoes}
 use Rattle.qpu_shared.specs.declared.did.Did.{Did}
 use Rattle.qpu_shared.specs.declared.did.Did.TheVariants.{Stepped, Awaits as ItAwaits, Faulted as ItFaulted}
 use Rattle.qpu_shared.specs.Exec.{Does}
-use Rattle.qpu_machine.specs.Kept.{IsOnPath, IsKept, KeepsPath}
+use Rattle.qpu_machine.specs.Kept.{IsOnPath, IsKept, HasFewLooks, KeepsPath}
 use Rattle.qpu_hazard.proofs.ProcessorLemmas.{processor_stays}
 use Rattle.qpu_hazard.proofs.MaskLemmas.{zn_defined, carry_defined}
 use Rattle.qpu_machine.proofs.KeptLooks.{looks_step}
@@ -118,7 +118,7 @@ on_after code p looks looks' ins book clean on holds looks0 looks1 going =
     }
 
 -- what a processor has pending after its instruction
-pending_left : (f : Fields) (p : ProcessorState) (outs : Outs) (starts : Starts) (h : SharedState) → p.q < length h.pending
+pub pending_left : (f : Fields) (p : ProcessorState) (outs : Outs) (starts : Starts) (h : SharedState) → p.q < length h.pending
     → pending_of (shared_after f p outs starts h) p.q ≡ pending_after f outs starts (pending_of h p.q)
 unfolding shared_after
 pending_left f p outs starts h there = get_or-set_same h.pending p.q (pending_after f outs starts (pending_of h p.q)) nothing_pending there
@@ -147,6 +147,39 @@ kept_by_instruction code p h after left there clean on d =
     on_after code p looks (lookups_after f outs d.starts.look looks) ins d.starts.book clean on d.holds looks0 looks1 in
     rw (d.is_after, left_is) on'
 
+-- how many look-ups a processor on a path has outstanding
+
+few_of : (n m made taken : ℕ) → n ≡ m + made - taken → m + made ≤ 4 → n ≤ 4
+few_of n m made taken is few = omega (arith, is, few)
+
+few_before : (n m made : ℕ) → n ≡ m → m + made ≤ 4 → n ≤ 4
+few_before n m made is few = omega (arith, is, few)
+
+pub few_on_path : (code : List ℕ) (p : ProcessorState) (looks : LookupsState) → IsClean code → IsOnPath code p looks → HasFewLooks looks
+few_on_path code p looks clean on =
+    let holds = word_holds code on.path p.place clean on.is_path on.stands.follows in
+    (few_before _ _ _ on.looks0 holds.looks_0.most, few_before _ _ _ on.looks1 holds.looks_1.most)
+
+-- and after its instruction
+few_by_instruction : (code : List ℕ) (p : ProcessorState) (h : SharedState) (after : ProcessorState) (left : SharedState) → p.q < length h.pending
+    → IsClean code → IsOnPath code p (pending_of h p.q).looks → IsDone (is_link_point code) (slice_index code p.place) p h after left
+    → HasFewLooks (pending_of left p.q).looks
+unfolding fields_at
+few_by_instruction code p h after left there clean on d =
+    let f : Fields = fields_of (slice_index code p.place) in
+    let ins : Ins = ins_of f p h in
+    let outs : Outs = outs_of f p ins in
+    let holds = word_holds code on.path p.place clean on.is_path on.stands.follows in
+    let free = free_of_none f p.q h d.free in
+    let looks : LookupsState = (pending_of h p.q).looks in
+    let left_is = ap (λ (x : SharedState). (pending_of x p.q).looks) d.is_left ∙ looks_left f p outs d.starts h there in
+    let looks0 = looks_step f (add_sent f p ins) (mul_sent f p ins) h.memory d.book d.starts looks 0 (omega arith) holds.actions d.begins free.take0 in
+    let looks1 = looks_step f (add_sent f p ins) (mul_sent f p ins) h.memory d.book d.starts looks 1 (omega arith) holds.actions d.begins free.take1 in
+    rw left_is (
+      few_of _ _ _ _ (looks0 ∙ ap (looks_after f 0) on.looks0) holds.looks_0.most,
+      few_of _ _ _ _ (looks1 ∙ ap (looks_after f 1) on.looks1) holds.looks_1.most,
+    )
+
 -- a word, whatever became of it
 
 -- an instruction that is done
@@ -161,27 +194,31 @@ keeps_done code p h after left there clean on d =
       number = ap (λ (x : ProcessorState). x.q) d.is_after ∙ moves.q;
       executed = let e : after.executed ≡ p.executed + 1 = ap (λ (x : ProcessorState). x.executed) d.is_after ∙ moves.executed in omega (arith, e);
       kept = kept_by_instruction code p h after left there clean on d;
+      few = few_by_instruction code p h after left there clean on d;
       others = λ other apart. ap (λ (x : SharedState). pending_of x other) d.is_left ∙ others_by_instruction f p (outs_of f p ins) d.starts h p.q other refl apart;
       room = ap (λ (x : SharedState). length x.pending) d.is_left ∙ length_kept_by_instruction f p (outs_of f p ins) d.starts h;
     }
 
 -- nothing changed
-keeps_still : (code : List ℕ) (p : ProcessorState) (h : SharedState) → IsOnPath code p (pending_of h p.q).looks → KeepsPath code p.q p h p h
-keeps_still code p h on = record {
+keeps_still : (code : List ℕ) (p : ProcessorState) (h : SharedState) → IsClean code → IsOnPath code p (pending_of h p.q).looks → KeepsPath code p.q p h p h
+keeps_still code p h clean on = record {
   number = refl;
   executed = omega arith;
   kept = λ going. on;
+  few = few_on_path code p (pending_of h p.q).looks clean on;
   others = λ other apart. refl;
   room = refl;
 }
 
 -- a fault
-keeps_fault : (code : List ℕ) (p : ProcessorState) (h : SharedState) (kind : FaultKind) → KeepsPath code p.q p h (halted kind p) h
+keeps_fault : (code : List ℕ) (p : ProcessorState) (h : SharedState) (kind : FaultKind) → IsClean code → IsOnPath code p (pending_of h p.q).looks
+    → KeepsPath code p.q p h (halted kind p) h
 unfolding halted
-keeps_fault code p h kind = record {
+keeps_fault code p h kind clean on = record {
   number = refl;
   executed = omega arith;
   kept = λ going. absurd (cc);
+  few = few_on_path code p (pending_of h p.q).looks clean on;
   others = λ other apart. refl;
   room = refl;
 }
@@ -192,8 +229,8 @@ keeps_of : (code : List ℕ) (p : ProcessorState) (h : SharedState) (after : Pro
     → KeepsPath code p.q p h after left
 keeps_of code p h after left Stepped there clean on does =
     keeps_done code p h after left there clean on (parts_of_done (is_link_point code) (slice_index code p.place) p h after left does)
-keeps_of code p h after left (ItAwaits cause) there clean on does = rw (does.1, does.2) (keeps_still code p h on)
-keeps_of code p h after left (ItFaulted kind) there clean on does = rw (does.1, does.2) (keeps_fault code p h kind)
+keeps_of code p h after left (ItAwaits cause) there clean on does = rw (does.1, does.2) (keeps_still code p h clean on)
+keeps_of code p h after left (ItFaulted kind) there clean on does = rw (does.1, does.2) (keeps_fault code p h kind clean on)
 
 -- what a word of processor q keeps
 pub keeps_by_word : (code : List ℕ) (q : ℕ) (p : ProcessorState) (h : SharedState) (after : ProcessorState) (left : SharedState) (did : Did) → p.q ≡ q

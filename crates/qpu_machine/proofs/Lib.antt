@@ -8,5 +8,15 @@ pub mod WordLemmas
 pub mod SoundLemmas
 pub mod MovedLemmas
 pub mod OpeningLemmas
+pub mod StartLemmas
 pub mod JournalLemmas
 pub mod EndingLemmas
+pub mod ScheduleLemmas
+pub mod LocalLemmas
+pub mod PendingLemmas
+pub mod BoundLemmas
+pub mod SerialLemmas
+pub mod TrailLemmas
+pub mod RunLaw
+pub mod AtRestLaw
+pub mod OpeningLaw

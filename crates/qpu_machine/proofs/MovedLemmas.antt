@@ -33,13 +33,13 @@ counts_of h left q others own r (inr apart) =
 nothing_past : (h : SharedState) (q : ℕ) → length h.pending ≤ q → pending_of h q ≡ nothing_pending
 nothing_past h q past = get_or-eq_default h.pending nothing_pending past
 
-load_there : (h : SharedState) (q : ℕ) (left : SharedState) → load_moved h q ≡ Some left → (q < length h.pending) ⊎ (length h.pending ≤ q) → q < length h.pending
+pub load_there : (h : SharedState) (q : ℕ) (left : SharedState) → load_moved h q ≡ Some left → (q < length h.pending) ⊎ (length h.pending ≤ q) → q < length h.pending
 unfolding load_moved
 load_there h q left moved (inl there) = there
 load_there h q left moved (inr past) =
     let none : after_load h q (pending_of h q).load ≡ None = ap (λ (x : Pending). after_load h q x.load) (nothing_past h q past) in absurd (cc)
 
-store_there : (h : SharedState) (q : ℕ) (left : SharedState) → store_moved h q ≡ Some left → (q < length h.pending) ⊎ (length h.pending ≤ q) → q < length h.pending
+pub store_there : (h : SharedState) (q : ℕ) (left : SharedState) → store_moved h q ≡ Some left → (q < length h.pending) ⊎ (length h.pending ≤ q) → q < length h.pending
 unfolding store_moved
 store_there h q left moved (inl there) = there
 store_there h q left moved (inr past) =
@@ -50,7 +50,7 @@ either_empty true true = refl
 either_empty true false = refl
 either_empty false first = refl
 
-fetch_there : (h : SharedState) (q unit : ℕ) (left : SharedState) → fetch_moved h q unit ≡ Some left → (q < length h.pending) ⊎ (length h.pending ≤ q) → q < length h.pending
+pub fetch_there : (h : SharedState) (q unit : ℕ) (left : SharedState) → fetch_moved h q unit ≡ Some left → (q < length h.pending) ⊎ (length h.pending ≤ q) → q < length h.pending
 unfolding fetch_moved
 fetch_there h q unit left moved (inl there) = there
 fetch_there h q unit left moved (inr past) =

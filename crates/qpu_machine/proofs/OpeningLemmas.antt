@@ -13,25 +13,30 @@ use Rattle.qpu_hazard.specs.Paths.{IsClean}
 use Rattle.qpu_hazard.proofs.ProcessorLemmas.{processor_opens}
 use Rattle.qpu_machine.specs.declared.start.Start.{Start}
 use Rattle.qpu_machine.specs.Machine.{MachineState, processor_of, words_of, with_start, machine_of}
-use Rattle.qpu_machine.specs.Kept.{IsOnPath}
+use Rattle.qpu_machine.specs.Kept.{IsOnPath, HasFewLooks}
 use Rattle.qpu_machine.specs.Sound.{IsStarted, IsStartedAt, IsSoundMachine}
+use Rattle.qpu_machine.proofs.AloneLemmas.{nobody_pending}
 
 -- without any processor
 
 none_started : (m : MachineState) (q : ℕ) → processor_of m q ≡ None → IsStartedAt m q (processor_of m q)
 none_started m q none = subst (IsStartedAt m q) (sym none) tt
 
-pub sound_unstarted : (m : MachineState) → m.limit ≤ 1000000 → length m.shared.pending ≡ 12 → m.processors ≡ replicate 12 None → IsSoundMachine m
-sound_unstarted m limit pending none = record {
-  limit = limit;
-  pending = pending;
-  processors = ap length none;
-  each = λ q few. none_started m q (ap (λ (ps : List (Option ProcessorState)). slice_index_or ps q None) none ∙ get_or-replicate 12 q None None few);
-}
-
 pub room_opens : (memory : List ℕ) → length (opening_shared memory).pending ≡ 12
 unfolding opening_shared
 room_opens memory = refl
+
+nothing_few : (pending : Pending) → pending ≡ nothing_pending → HasFewLooks pending.looks
+nothing_few pending nothing = subst (λ (x : Pending). HasFewLooks x.looks) (sym nothing) (omega arith, omega arith)
+
+pub sound_unstarted : (m : MachineState) (memory : List ℕ) → m.limit ≤ 1000000 → m.shared ≡ opening_shared memory → m.processors ≡ replicate 12 None → IsSoundMachine m
+sound_unstarted m memory limit shared none = record {
+  limit = limit;
+  pending = ap (λ (h : SharedState). length h.pending) shared ∙ room_opens memory;
+  looks = λ q. nothing_few _ (ap (λ (h : SharedState). pending_of h q) shared ∙ nobody_pending memory q);
+  processors = ap length none;
+  each = λ q few. none_started m q (ap (λ (ps : List (Option ProcessorState)). slice_index_or ps q None) none ∙ get_or-replicate 12 q None None few);
+}
 
 -- with one processor more
 
@@ -55,6 +60,7 @@ unfolding opening_processor
 own_started m start program there nothing clean = record {
   number = refl;
   program = rw program there;
+  clean = rw program clean;
   executed = omega arith;
   kept = λ going. opens_on (words_of m start.q) start.q start.uniforms (pending_of m.shared start.q) nothing (rw program clean);
 }
@@ -66,6 +72,7 @@ other_started m n r None limit programs program shared at = tt
 other_started m n r (Some p) limit programs program shared at = record {
   number = at.number;
   program = rw (programs, program) at.program;
+  clean = rw (programs, program) at.clean;
   executed = rw limit at.executed;
   kept = rw (programs, program, shared) at.kept;
 }
@@ -86,6 +93,7 @@ pub sound_started : (m : MachineState) (start : Start) → IsSoundMachine m → 
 sound_started m start sound room low there nothing clean = record {
   limit = sound.limit;
   pending = sound.pending;
+  looks = sound.looks;
   processors = length-set m.processors start.q (Some (opening_processor start.q start.uniforms)) ∙ sound.processors;
   each = λ r few. started_at m start sound room low there nothing clean r few (cases_eq r start.q);
 }

@@ -67,11 +67,15 @@ stretch_before {q} {m} {k} {s} (one_more {i = j} before enabled step) more =
 none_left : (m : MachineState) (q : ℕ) → IsFinal m → has_local_step m q ≡ false
 none_left m q final = rw (final (Exec q)) refl
 
--- local steps to a final machine are a stretch
-pub ran_stretch : {q i : ℕ} {m n : MachineState} → Ran q m i n → IsFinal n → Stretch q m (replicate i (Exec q)) n
-ran_stretch {q} {i} {m} {n} ran final =
+-- local steps are a stretch where none is left
+pub ran_stops : {q i : ℕ} {m n : MachineState} → Ran q m i n → has_local_step n q ≡ false → Stretch q m (replicate i (Exec q)) n
+ran_stops {q} {i} {m} {n} ran no_more =
     let P : List Actor → Type 0 = λ t. Stretch q m t n in
-    subst P (append-nil (replicate i (Exec q))) (stretch_before ran (stops (none_left n q final)))
+    subst P (append-nil (replicate i (Exec q))) (stretch_before ran (stops no_more))
+
+-- as in a final machine
+pub ran_stretch : {q i : ℕ} {m n : MachineState} → Ran q m i n → IsFinal n → Stretch q m (replicate i (Exec q)) n
+ran_stretch {q} {i} {m} {n} ran final = ran_stops ran (none_left n q final)
 
 -- in a final machine what a processor tries does nothing
 tries_rest : (q : ℕ) (m : MachineState) → IsFinal m → InTurn (tries_of q) m [] m

@@ -15,12 +15,13 @@ use Rattle.qpu_tmu.specs.Looks.{LookupsState}
 use Rattle.qpu_shared.specs.declared.cause.Cause.{Cause}
 use Rattle.qpu_shared.specs.declared.did.Did.{Did}
 use Rattle.qpu_shared.specs.declared.did.Did.TheVariants.{Stepped, Awaits as ItAwaits, Faulted as ItFaulted}
+use Rattle.qpu_shared.specs.declared.pending.Pending.{Pending}
 use Rattle.qpu_shared.specs.SharedState.{SharedState}
 use Rattle.qpu_shared.specs.Exec.{Does}
 use Rattle.qpu_shared.specs.Instruction.{first_cause, instruction_result, outcome_of, outcome_under, is_going, is_running, instruction, pending_of}
 use Rattle.qpu_machine.specs.declared.actor.Actor.TheVariants.{Exec}
 use Rattle.qpu_machine.specs.Machine.{MachineState, processor_of, words_of, with_both, after_outcome, after_step}
-use Rattle.qpu_machine.specs.Kept.{IsOnPath, IsKept, KeepsPath}
+use Rattle.qpu_machine.specs.Kept.{IsOnPath, IsKept, HasFewLooks, KeepsPath}
 use Rattle.qpu_machine.specs.Sound.{IsStarted, IsStartedAt, IsSoundMachine}
 
 -- what a word of a running processor comes to in the machine
@@ -34,7 +35,7 @@ DoesWord m q p did after left =
     p m.shared after left
 
 -- the instruction of a running processor
-runs_as : (m : MachineState) (q : ℕ) (p : ProcessorState) → is_running m.limit p ≡ true → p.q ≡ q
+pub runs_as : (m : MachineState) (q : ℕ) (p : ProcessorState) → is_running m.limit p ≡ true → p.q ≡ q
     → instruction (words_of m q) m.limit p m.shared
     ≡ outcome_under (first_cause (fields_of (slice_index (words_of m q) p.place)) q m.shared)
     (instruction_result (is_link_point (words_of m q)) (slice_index (words_of m q) p.place) p m.shared)
@@ -66,6 +67,7 @@ other_started m n r None limit programs program_of keeps at = tt
 other_started m n r (Some p) limit programs program_of keeps at = record {
   number = at.number;
   program = rw (programs, program_of) at.program;
+  clean = rw (programs, program_of) at.clean;
   executed = rw limit at.executed;
   kept = rw (programs, program_of) (keeps p at.kept);
 }
@@ -76,10 +78,16 @@ pub sound_after : (m : MachineState) (q : ℕ) (p after : ProcessorState) (left 
 sound_after m q p after left sound low there runs keeps = record {
   limit = sound.limit;
   pending = keeps.room ∙ sound.pending;
+  looks = λ r. few_or_other m q left sound keeps.few keeps.others r (cases_eq r q);
   processors = length-set m.processors q (Some after) ∙ sound.processors;
   each = λ r few. at_or_other m q p after left sound low there runs keeps r few (cases_eq r q);
 }
   where
+    few_or_other : (m : MachineState) (q : ℕ) (left : SharedState) → IsSoundMachine m → HasFewLooks (pending_of left q).looks
+        → ((other : ℕ) → other ≢ q → pending_of left other ≡ pending_of m.shared other) → (r : ℕ) → (r ≡ q) ⊎ (r ≢ q) → HasFewLooks (pending_of left r).looks
+    few_or_other m q left sound few others r (inl same) = subst (λ s. HasFewLooks (pending_of left s).looks) (sym same) few
+    few_or_other m q left sound few others r (inr apart) = subst (λ (x : Pending). HasFewLooks x.looks) (sym (others r apart)) (sound.looks r)
+
     executed_less : (m : MachineState) (p : ProcessorState) → is_running m.limit p ≡ true → p.executed < m.limit
     executed_less m p runs = grind (arith, nat_tests)
 
@@ -92,6 +100,7 @@ sound_after m q p after left sound low there runs keeps = record {
         (record {
           number = keeps.number;
           program = at.program;
+          clean = at.clean;
           executed = omega (arith, keeps.executed, less);
           kept = keeps.kept;
         })
@@ -121,6 +130,9 @@ same_count code p looks looks' first second kept going =
       looks1 = second ∙ on.looks1;
     }
 
+same_few : (looks looks' : LookupsState) → length looks'.looks0 ≡ length looks.looks0 → length looks'.looks1 ≡ length looks.looks1 → HasFewLooks looks → HasFewLooks looks'
+same_few looks looks' first second few = let a = few.0 in let b = few.1 in (omega (arith, first, a), omega (arith, second, b))
+
 -- what is shared is replaced, with as many look-ups outstanding for each processor
 pub sound_moved : (m : MachineState) (left : SharedState) → IsSoundMachine m → length left.pending ≡ length m.shared.pending
     → ((r : ℕ) → (length (pending_of left r).looks.looks0 ≡ length (pending_of m.shared r).looks.looks0) × (length (pending_of left r).looks.looks1 ≡ length (pending_of m.shared r).looks.looks1))
@@ -128,6 +140,7 @@ pub sound_moved : (m : MachineState) (left : SharedState) → IsSoundMachine m �
 sound_moved m left sound room counts = record {
   limit = sound.limit;
   pending = room ∙ sound.pending;
+  looks = λ r. same_few (pending_of m.shared r).looks (pending_of left r).looks (counts r).0 (counts r).1 (sound.looks r);
   processors = sound.processors;
   each = λ r few.
       other_started m (record m { shared = left }) r (processor_of m r) refl refl refl
@@ -141,7 +154,7 @@ going_of Going is = refl
 going_of Ended is = absurd (cc)
 going_of (Faulted kind place) is = absurd (cc)
 
-left_true : (a b : Bool) → (a && b) ≡ true → a ≡ true
+pub left_true : (a b : Bool) → (a && b) ≡ true → a ≡ true
 left_true true b is = refl
 left_true false b is = absurd (cc)
 

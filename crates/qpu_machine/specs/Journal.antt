@@ -38,6 +38,11 @@ abbrev pub steps_of : List Run → List Actor
 steps_of [] = []
 steps_of (run ∷ runs) = replicate run.count run.actor ++ steps_of runs
 
+-- how many these are: the sum of the counts
+abbrev pub steps_in : List Run → ℕ
+steps_in [] = 0
+steps_in (run ∷ runs) = run.count + steps_in runs
+
 -- runs with more steps of an actor spell those steps after what they spelled before
 abbrev pub SpellsMore : Type 0
 SpellsMore = (runs : List Run) (actor : Actor) (count : ℕ) → steps_of (pushed runs actor count) ≡ steps_of runs ++ replicate count actor

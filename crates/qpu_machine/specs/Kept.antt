@@ -6,6 +6,7 @@ use Rattle.qpu_word.specs.Processor.{ProcessorState}
 use Rattle.qpu_tmu.specs.Looks.{LookupsState}
 use Rattle.qpu_shared.specs.SharedState.{SharedState}
 use Rattle.qpu_shared.specs.Instruction.{pending_of}
+use Rattle.qpu_hazard.specs.declared.demands.TheConstants.{LOOKS_MOST}
 use Rattle.qpu_hazard.specs.Paths.{IsPath, flags_of, carry_of, looks_of}
 use Rattle.qpu_hazard.specs.Standing.{ProcessorStands}
 
@@ -24,11 +25,21 @@ pub record IsOnPath (code : List ℕ) (p : ProcessorState) (looks : LookupsState
 abbrev pub IsKept : List ℕ → ProcessorState → LookupsState → Type 0
 IsKept code p looks = p.halt ≡ Going → IsOnPath code p looks
 
+-- it does with some look-ups outstanding
+abbrev pub IsKeptAlone : List ℕ → ProcessorState → Type 0
+IsKeptAlone code p = (looks : LookupsState) × IsKept code p looks
+
+-- no unit has more look-ups outstanding than it may
+abbrev pub HasFewLooks : LookupsState → Type 0
+HasFewLooks looks = (length looks.looks0 ≤ LOOKS_MOST) × (length looks.looks1 ≤ LOOKS_MOST)
+
 -- what a word of processor q keeps, whatever became of it: the number, a count that grows by one at
--- most, where the processor stands, what others have pending, and for how many there is room
+-- most, where the processor stands, few look-ups, what others have pending, and for how many there
+-- is room
 pub record KeepsPath (code : List ℕ) (q : ℕ) (p : ProcessorState) (h : SharedState) (after : ProcessorState) (left : SharedState) : Type 0 where
   pub number : after.q ≡ q
   pub executed : after.executed ≤ p.executed + 1
   pub kept : IsKept code after (pending_of left q).looks
+  pub few : HasFewLooks (pending_of left q).looks
   pub others : (other : ℕ) → other ≢ q → pending_of left other ≡ pending_of h other
   pub room : length left.pending ≡ length h.pending

@@ -11,3 +11,9 @@ pub mod Took
 pub mod Journal
 pub mod Still
 pub mod Awaited
+pub mod Local
+pub mod Bound
+pub mod Gains
+pub mod Opening
+pub mod Trails
+pub mod AtRest

@@ -36,6 +36,10 @@ pub data InTurn : List Actor → MachineState → List Actor → MachineState �
 abbrev pub tries_of : ℕ → List Actor
 tries_of q = Exec q ∷ Load q ∷ Store q ∷ Fetch q 0 ∷ Fetch q 1 ∷ []
 
+-- what a processor does in a round: its local words, and then what it tries
+pub data Turned (q : ℕ) : MachineState → List Actor → MachineState → Type 0 where
+  turned : {m n k : MachineState} {s t : List Actor} → Stretch q m s n → InTurn (tries_of q) n t k → Turned q m (s ++ t) k
+
 -- the processors from number q on, each with its local words and then what it tries, in order
 pub data Round : ℕ → MachineState → List Actor → MachineState → Type 0 where
   over : {q : ℕ} {m : MachineState} → q ≡ PROCESSORS → Round q m [] m

@@ -8,8 +8,11 @@ mod journal;
 mod laws;
 mod machine;
 mod opening;
+mod putting;
+mod serial;
 mod start;
 mod stepping;
+mod stretching;
 mod taking;
 #[cfg(test)]
 mod tests;
@@ -17,6 +20,10 @@ mod tests;
 pub use actor::Actor;
 pub use conclusion::Ending;
 pub use journal::{Journal, Run};
-pub use laws::{journal_spells, one_serial_schedule};
+pub use laws::{
+    final_machines_rest, journal_spells, one_serial_schedule, opening_is_sound,
+    running_out_is_at_the_limit, schedules_are_bounded, schedules_run, traces_are_paths,
+};
 pub use machine::Machine;
 pub use start::Start;
+pub use stretching::stretch;

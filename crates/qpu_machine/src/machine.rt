@@ -1,6 +1,7 @@
 //! The machine as one value.
 ghost use Rattle.std.specs.Prelude.{◌≡◌, length, option_map};
 ghost use Rattle.qpu_machine.specs.Machine.{processor_of};
+ghost use Rattle.qpu_machine.specs.Sound.{IsSoundMachine};
 
 use crate::start::Start;
 use arrayvec::ArrayVec;
@@ -15,7 +16,8 @@ pub(crate) const PROCESSORS: usize = 12;
 
 /// A machine: a limit of instructions, checked programs, up to twelve processors and what they
 /// share. Contracts see its `MachineState` and its starts. Each processor that goes on stands on a
-/// path of its program, which breaks no hazard rule.
+/// path of its program, which breaks no hazard rule; and a processor is there exactly where it has a
+/// start, which names its program.
 #[derive(Debug, Drop)]
 pub struct Machine {
     pub(crate) limit: u32,
@@ -28,16 +30,24 @@ pub struct Machine {
 
 impl Model for Machine {
     ghost use Rattle.qpu_machine.specs.Views.{Started, started_of, state_of};
-    ghost use Rattle.qpu_machine.specs.Sound.{IsSoundMachine};
+    ghost use Rattle.qpu_machine.specs.Sound.{IsWhole};
 
     ghost Value = { Started };
 
     ghost view = { started_of };
 
-    ghost invariant = { λ inside. IsSoundMachine (state_of inside) };
+    ghost invariant = { λ inside. IsWhole inside.starts.items (state_of inside) };
 }
 
 impl Machine {
+    /// Does nothing: its clause tells what the type of a machine keeps, so that the laws of schedules
+    /// hold of it.
+    pub fn keeps(&self)
+        ensures { IsSoundMachine self.now.state }
+    {
+        let _limit = self.limit;
+    }
+
     /// The limit of instructions of each processor, at most 1,000,000.
     pub fn limit(&self) -> u32
         ensures { result ≡ self.now.state.limit }

@@ -17,7 +17,7 @@ use qpu_shared::{Did, Shared};
 use qpu_word::Program;
 
 /// Does the local word at a processor's place.
-fn do_local(p: &mut Processor, program: &Checked) -> Did
+pub(crate) fn do_local(p: &mut Processor, program: &Checked) -> Did
     requires going { p.old.halt ≡ Going }
     requires executed { p.old.executed < 1000000 }
     requires words { length program.now ≤ 4096 }

@@ -16,7 +16,7 @@ pub unreachable-requires : goal.unreachable-requires
 unreachable-requires c =
     let same : c.args.self.now.state ≡ state_of c.self.inside = sym (ap (λ (s : Started). s.state) c.self.view_is) in
     let on =
-    on_running (state_of c.self.inside) c.args.q c.args.processor.now c.self.invariant c.requires.low
+    on_running (state_of c.self.inside) c.args.q c.args.processor.now c.self.invariant.sound c.requires.low
     (subst (λ (m : MachineState). processor_of m c.args.q ≡ Some c.args.processor.now) same c.requires.there)
     (subst (λ (m : MachineState). is_running m.limit c.args.processor.now ≡ true) same c.requires.runs) in
     let code : c.program_at-program.result.now ≡ words_of (state_of c.self.inside) c.args.q =
@@ -42,5 +42,5 @@ returns-clause-cause c =
 pub returns-clause-number : goal.returns-clause-number
 returns-clause-number c =
     let same : c.args.self.now.state ≡ state_of c.self.inside = sym (ap (λ (s : Started). s.state) c.self.view_is) in
-    number_running (state_of c.self.inside) c.args.q c.args.processor.now c.self.invariant c.requires.low
+    number_running (state_of c.self.inside) c.args.q c.args.processor.now c.self.invariant.sound c.requires.low
     (subst (λ (m : MachineState). processor_of m c.args.q ≡ Some c.args.processor.now) same c.requires.there)

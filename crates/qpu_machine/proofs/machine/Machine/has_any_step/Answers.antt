@@ -10,5 +10,5 @@ returns-then-has_step-clause-moves c = moves_of c.args.self.now.state c.loop-q.q
 pub returns-clause-still : goal.returns-clause-still
 returns-clause-still c =
     let same : state_of c.self.inside ≡ c.args.self.now.state = ap (λ (s : Started). s.state) c.self.view_is in
-    let sound : IsSoundMachine c.args.self.now.state = subst IsSoundMachine same c.self.invariant in
+    let sound : IsSoundMachine c.args.self.now.state = subst IsSoundMachine same c.self.invariant.sound in
     final_of c.args.self.now.state sound (λ q low. c.loop-q.invariant q (omega arith))

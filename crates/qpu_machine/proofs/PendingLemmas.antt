@@ -1,0 +1,209 @@
+-- How many moves are pending: an instruction makes two more at most, and a move one less.
+use Rattle.std.proofs.Common.{◌≡◌, ◌<◌, ◌≤◌, ◌+◌, ℕ, zero, suc, Bool, true, false, List, [], ◌∷◌, ◌++◌, drop, Option, Some, None, Result, Ok, Err, refl, ap, sym, ◌∙◌, arith}
+use Rattle.std.specs.Prelude.{◌==◌, ◌&&◌, nat_lt, is_some, map, find, option_map, slice_index, if◌then◌else◌}
+use Rattle.std.proofs.lemmas.Bool.Decides.{nat_tests}
+use Rattle.qpu_word.specs.declared.word.Fields.{Fields}
+use Rattle.qpu_word.specs.declared.lanes.Lanes.{Lanes}
+use Rattle.qpu_word.specs.declared.traffic.Outs.{Outs}
+use Rattle.qpu_word.specs.declared.setup.Book.{Book}
+use Rattle.qpu_word.specs.declared.fault.FaultKind.{FaultKind}
+use Rattle.qpu_word.specs.declared.fault.FaultKind.TheVariants.{Transfer as TransferFault}
+use Rattle.qpu_word.specs.declared.code.TheConstants.{WRITE_DMA_ADDRESS}
+use Rattle.qpu_word.specs.Words.{is_exchanged, is_tmu_load, add_writes, mul_writes, writes_a, writes_b}
+use Rattle.qpu_word.specs.Instruction.{after_setups, first_lane, as_lanes, is_look_address, look_address, outs_from, sent_to, sent_to_a, sent_to_b}
+use Rattle.qpu_dma.specs.declared.transfer.Transfer.{Transfer}
+use Rattle.qpu_dma.specs.Transfers.{Plan, load_plan, store_plan}
+use Rattle.qpu_tmu.specs.declared.look_up.LookUp.{LookUp}
+use Rattle.qpu_tmu.specs.Looks.{LookupsState, with_queue, is_waiting, with_look, with_words, next_look}
+use Rattle.qpu_hazard.specs.Demands.{one}
+use Rattle.qpu_shared.specs.declared.pending.Pending.{Pending}
+use Rattle.qpu_shared.specs.declared.starts.Starts.{Starts}
+use Rattle.qpu_shared.specs.Instruction.{looks_of, after_vpm_write, started, load_started, store_started, look_issued, after_writes, or_pending, after_take, after_issue, pending_after}
+use Rattle.qpu_shared.specs.Moves.{fetched, tmu_units, unit_looks}
+use Rattle.qpu_machine.specs.Bound.{waiting, moves_pending}
+use Rattle.qpu_machine.proofs.KeptLooks.{ok_same, through, look_starts, by_issue, none_there}
+
+-- look-ups that aren't fetched
+
+waiting_both : (xs ys : List LookUp) → waiting (xs ++ ys) ≡ waiting xs + waiting ys
+waiting_both [] ys = omega arith
+waiting_both (look ∷ more) ys = let rest = waiting_both more ys in omega (arith, rest)
+
+take_fewer : (takes : Bool) (looks : List LookUp) → waiting (if takes then drop 1 looks else looks) ≤ waiting looks
+take_fewer false looks = omega arith
+take_fewer true [] = omega arith
+take_fewer true (look ∷ more) = omega arith
+
+issue_more : (look : Option Lanes) (look_unit unit : ℕ) (looks : List LookUp) → waiting (after_issue look look_unit unit looks) ≤ waiting looks + one (is_some look && (look_unit == unit))
+issue_more None look_unit unit looks = omega arith
+issue_more (Some at) look_unit unit looks = by_test (look_unit == unit)
+  where
+    by_test : (b : Bool) → waiting (if b then with_look at.v looks else looks) ≤ waiting looks + one b
+    by_test true = let both = waiting_both looks (record { at = at.v; words = None } ∷ []) in omega (arith, both)
+    by_test false = omega arith
+
+one_unit : (unit : ℕ) (some : Bool) → one (some && (unit == 0)) + one (some && (unit == 1)) ≤ one some
+one_unit zero true = omega arith
+one_unit zero false = omega arith
+one_unit (suc zero) true = omega arith
+one_unit (suc zero) false = omega arith
+one_unit (suc (suc unit)) some = rw (apart (suc (suc unit)) 0 (omega arith), apart (suc (suc unit)) 1 (omega arith)) (neither some)
+  where
+    apart : (n k : ℕ) → k < n → (n == k) ≡ false
+    apart n k less = grind (arith, nat_tests)
+
+    neither : (some : Bool) → one (some && false) + one (some && false) ≤ one some
+    neither true = omega arith
+    neither false = omega arith
+
+-- what an instruction starts
+
+load_more : (new old : Option Transfer) → one (is_some (or_pending new old)) ≤ one (is_some new) + one (is_some old)
+load_more None old = omega arith
+load_more (Some t) None = omega arith
+load_more (Some t) (Some u) = omega arith
+
+ok_some : (t : Transfer) (issued : Option Transfer) → ◌≡◌ {A = Result (Option Transfer) FaultKind} (Ok (Some t)) (Ok issued) → is_some issued ≡ true
+ok_some t issued e = let same : ◌≡◌ {A = Option Transfer} (Some t) issued = cc in ap (λ (o : Option Transfer). is_some o) (sym same)
+
+ok_none : (issued : Option Transfer) → ◌≡◌ {A = Result (Option Transfer) FaultKind} (Ok None) (Ok issued) → is_some issued ≡ false
+ok_none issued e = let same : ◌≡◌ {A = Option Transfer} None issued = cc in ap (λ (o : Option Transfer). is_some o) (sym same)
+
+fits_some : (b : Bool) (t : Transfer) (issued : Option Transfer) → (if b then Ok (Some t) else Err TransferFault) ≡ Ok issued → is_some issued ≡ true
+fits_some true t issued e = ok_some t issued e
+fits_some false t issued e = absurd (cc)
+
+started_some : (plan : Transfer → Plan) (memory : List ℕ) (setup : Option ℕ) (step address : ℕ) (issued : Option Transfer)
+    → started plan memory setup step address ≡ Ok issued → is_some issued ≡ true
+started_some plan memory None step address issued e = absurd (cc)
+started_some plan memory (Some setup) step address issued e = fits_some _ _ issued e
+
+load_same : (at : Option ℕ) (book : Book) (memory : List ℕ) (issued : Option Transfer) → load_started at book memory ≡ Ok issued → is_some issued ≡ is_some at
+load_same None book memory issued e = ok_none issued e
+load_same (Some address) book memory issued e = started_some load_plan memory book.load book.load_pitch address issued e
+
+store_same : (at : Option ℕ) (book : Book) (memory : List ℕ) (issued : Option Transfer) → store_started at book memory ≡ Ok issued → is_some issued ≡ is_some at
+store_same None book memory issued e = ok_none issued e
+store_same (Some address) book memory issued e = started_some store_plan memory book.store book.store_stride address issued e
+
+load_starts : (outs : Outs) (memory : List ℕ) (book : Book) (starts : Starts) → after_writes outs memory book ≡ Ok starts → is_some starts.load ≡ is_some outs.load_at
+unfolding after_writes
+load_starts outs memory book starts e =
+    through (after_vpm_write outs.vpm book) _ starts (λ b _.
+    through (after_setups outs b) _ starts (λ c _.
+    through (load_started outs.load_at c memory) _ starts (λ load is.
+    through (store_started outs.store_at c memory) _ starts (λ store _.
+    through (look_issued outs.look memory) _ starts (λ look _ last.
+    ap (λ (s : Starts). is_some s.load) (sym (ok_same _ _ last)) ∙ load_same outs.load_at c memory load is))))) e
+
+store_starts : (outs : Outs) (memory : List ℕ) (book : Book) (starts : Starts) → after_writes outs memory book ≡ Ok starts → is_some starts.store ≡ is_some outs.store_at
+unfolding after_writes
+store_starts outs memory book starts e =
+    through (after_vpm_write outs.vpm book) _ starts (λ b _.
+    through (after_setups outs b) _ starts (λ c _.
+    through (load_started outs.load_at c memory) _ starts (λ load _.
+    through (store_started outs.store_at c memory) _ starts (λ store is.
+    through (look_issued outs.look memory) _ starts (λ look _ last.
+    ap (λ (s : Starts). is_some s.store) (sym (ok_same _ _ last)) ∙ store_same outs.store_at c memory store is))))) e
+
+-- a word has two writes, so it starts two moves at most
+
+some_lane : (b : Bool) (x : List ℕ) → is_some (first_lane (if b then Some x else None)) ≡ b
+some_lane true x = refl
+some_lane false x = refl
+
+to_load : (f : Fields) (add mul : List ℕ) → is_some (first_lane (sent_to_a f add mul WRITE_DMA_ADDRESS)) ≡ writes_a f WRITE_DMA_ADDRESS
+unfolding sent_to_a
+to_load f add mul = some_lane (writes_a f WRITE_DMA_ADDRESS) _
+
+to_store : (f : Fields) (add mul : List ℕ) → is_some (first_lane (sent_to_b f add mul WRITE_DMA_ADDRESS)) ≡ writes_b f WRITE_DMA_ADDRESS
+unfolding sent_to_b
+to_store f add mul = some_lane (writes_b f WRITE_DMA_ADDRESS) _
+
+either_file : (exchanged a b : Bool) → one (if exchanged then b else a) + one (if exchanged then a else b) ≡ one a + one b
+either_file true a b = omega arith
+either_file false a b = refl
+
+other_place : (writes_it : Bool) (address : ℕ) → (writes_it && is_look_address address) ≡ true → one (writes_it && (address == WRITE_DMA_ADDRESS)) ≡ 0
+other_place writes_it address is = grind (arith, nat_tests)
+
+pub one_most : (b : Bool) → one b ≤ 1
+one_most true = omega arith
+one_most false = omega arith
+
+two_writes : (f : Fields) (add mul : List ℕ)
+    → one (writes_a f WRITE_DMA_ADDRESS) + one (writes_b f WRITE_DMA_ADDRESS) + one (is_some (as_lanes (sent_to f add mul (look_address f)))) ≤ 2
+two_writes f add mul =
+    let a : ℕ = one (add_writes f && (f.waddr_add == WRITE_DMA_ADDRESS)) in
+    let m : ℕ = one (mul_writes f && (f.waddr_mul == WRITE_DMA_ADDRESS)) in
+    let files : one (writes_a f WRITE_DMA_ADDRESS) + one (writes_b f WRITE_DMA_ADDRESS) ≡ a + m =
+    either_file (is_exchanged f) (add_writes f && (f.waddr_add == WRITE_DMA_ADDRESS)) (mul_writes f && (f.waddr_mul == WRITE_DMA_ADDRESS)) in
+    let few_a = one_most (add_writes f && (f.waddr_add == WRITE_DMA_ADDRESS)) in
+    let few_m = one_most (mul_writes f && (f.waddr_mul == WRITE_DMA_ADDRESS)) in
+    let few_l = one_most (is_some (as_lanes (sent_to f add mul (look_address f)))) in
+    by_issue f _
+    (λ is. let none = other_place (mul_writes f) f.waddr_mul is.mul in omega (arith, files, few_a, few_m, few_l, none))
+    (λ is. let none = other_place (add_writes f) f.waddr_add is.add in omega (arith, files, few_a, few_m, few_l, none))
+    (λ is. let none : one (is_some (as_lanes (sent_to f add mul (look_address f)))) ≡ 0 = ap one (none_there f add mul is) in omega (arith, files, few_a, few_m, few_l, none))
+
+two_outs : (f : Fields) (add mul : List ℕ)
+    → one (is_some (outs_from f add mul).load_at) + one (is_some (outs_from f add mul).store_at) + one (is_some (outs_from f add mul).look) ≤ 2
+unfolding outs_from
+two_outs f add mul = rw (to_load f add mul, to_store f add mul) (two_writes f add mul)
+
+-- so an instruction makes two more pending at most
+pub moves_by_instruction : (f : Fields) (add mul memory : List ℕ) (book : Book) (starts : Starts) (pending : Pending) → after_writes (outs_from f add mul) memory book ≡ Ok starts
+    → moves_pending (pending_after f (outs_from f add mul) starts pending) ≤ moves_pending pending + 2
+unfolding pending_after
+moves_by_instruction f add mul memory book starts pending begins =
+    let outs : Outs = outs_from f add mul in
+    let load = load_more starts.load pending.load in
+    let store = load_more starts.store pending.store in
+    let first = issue_more starts.look outs.look_unit 0 (after_take f 0 pending.looks.looks0) in
+    let second = issue_more starts.look outs.look_unit 1 (after_take f 1 pending.looks.looks1) in
+    let took0 = take_fewer (is_tmu_load f 0) pending.looks.looks0 in
+    let took1 = take_fewer (is_tmu_load f 1) pending.looks.looks1 in
+    let unit = one_unit outs.look_unit (is_some starts.look) in
+    let l = ap one (load_starts outs memory book starts begins) in
+    let s = ap one (store_starts outs memory book starts begins) in
+    let k = ap one (look_starts outs memory book starts begins) in
+    let two = two_outs f add mul in
+    omega (arith, load, store, first, second, took0, took1, unit, l, s, k, two)
+
+-- moves
+
+-- words are put into one look-up that waited
+one_waits : (waits : Bool) (words : List ℕ) (look : LookUp) (more : List LookUp)
+    → (is_some (option_map (λ (l : LookUp). l.at) (find is_waiting more)) ≡ true → waiting (with_words words more) + 1 ≡ waiting more) → is_waiting look ≡ waits
+    → is_some (option_map (λ (l : LookUp). l.at) (if waits then Some look else find is_waiting more)) ≡ true
+    → waiting (if waits then record look { words = Some words } ∷ more else look ∷ with_words words more) + 1 ≡ one waits + waiting more
+one_waits true words look more rest is some = omega arith
+one_waits false words look more rest is some = let less = rest some in let none = ap one is in omega (arith, less, none)
+
+some_waits : (words : List ℕ) (looks : List LookUp) → is_some (next_look looks) ≡ true → waiting (with_words words looks) + 1 ≡ waiting looks
+some_waits words [] some = absurd (cc)
+some_waits words (look ∷ more) some = one_waits (is_waiting look) words look more (some_waits words more) refl some
+
+fetched_by : (words : List ℕ → List ℕ) (looks : List LookUp) (at : Option (List ℕ)) (new : List LookUp) → next_look looks ≡ at
+    → option_map (λ (a : List ℕ). with_words (words a) looks) at ≡ Some new → waiting new + 1 ≡ waiting looks
+fetched_by words looks None new is e = absurd (cc)
+fetched_by words looks (Some a) new is e =
+    let same : with_words (words a) looks ≡ new = cc in
+    let less = some_waits (words a) looks (ap (λ (o : Option (List ℕ)). is_some o) is) in
+    ap (λ (xs : List LookUp). waiting xs + 1) (sym same) ∙ less
+
+fetched_fewer : (low : Bool) (memory : List ℕ) (queue new : List LookUp) → fetched memory (if low then queue else []) ≡ Some new → waiting new + 1 ≡ waiting queue
+fetched_fewer true memory queue new e = fetched_by (map (slice_index memory)) queue (next_look queue) new refl e
+fetched_fewer false memory queue new e = absurd (cc)
+
+queue_fewer : (is_0 : Bool) (lookups : LookupsState) (new : List LookUp) → waiting new + 1 ≡ waiting (if is_0 then lookups.looks0 else lookups.looks1)
+    → waiting (if is_0 then record lookups { looks0 = new } else record lookups { looks1 = new }).looks0
+    + waiting (if is_0 then record lookups { looks0 = new } else record lookups { looks1 = new }).looks1 + 1
+    ≡ waiting lookups.looks0 + waiting lookups.looks1
+queue_fewer true lookups new less = omega (arith, less)
+queue_fewer false lookups new less = omega (arith, less)
+
+pub moves_by_fetch : (memory : List ℕ) (pending : Pending) (unit : ℕ) (new : List LookUp) → fetched memory (unit_looks pending unit) ≡ Some new
+    → moves_pending (record pending { looks = with_queue pending.looks unit new }) + 1 ≡ moves_pending pending
+moves_by_fetch memory pending unit new e =
+    let less = queue_fewer (unit == 0) pending.looks new (fetched_fewer (nat_lt unit tmu_units) memory (looks_of pending unit) new e) in omega (arith, less)

@@ -1,0 +1,162 @@
+//! The serial order.
+ghost use Rattle.std.specs.Prelude.{◌≡◌, ◌≤◌, ◌<◌, ◌+◌, ◌^◌, ◌⊎◌, false, IfSome, IfOk, IsNone, OnOk, OnErr, None};
+ghost use Rattle.qpu_machine.specs.Machine.{processor_of, words_of};
+ghost use Rattle.qpu_machine.specs.Schedule.{After};
+ghost use Rattle.qpu_machine.specs.Ending.{IsFinal, ending_of};
+ghost use Rattle.qpu_machine.specs.AtRest.{IsAtRest};
+ghost use Rattle.qpu_machine.specs.Journal.{steps_in};
+ghost use Rattle.qpu_machine.specs.Serial.{Tried, InTurn, Turned, tries_of, Stretch, Round, SerialSchedule};
+ghost use Rattle.qpu_machine.specs.Local.{IsOwnAfter, is_local_next};
+ghost use Rattle.qpu_machine.specs.Bound.{steps_left};
+ghost use Rattle.qpu_machine.specs.Gains.{Gained, IsRun};
+
+use crate::actor::Actor;
+use crate::conclusion::Ending;
+use crate::journal::Journal;
+use crate::machine::{Machine, PROCESSORS};
+use crate::stepping::program_at;
+use crate::stretching::stretch;
+use qpu_local::Processor;
+use qpu_word::NoMemory;
+
+/// A processor after local steps of its own, up to where none is left.
+#[derive(Drop)]
+struct Stretched {
+    /// The processor.
+    processor: Processor,
+    /// How many steps.
+    steps: u64,
+}
+
+/// What a processor tries after its local words.
+fn tries(q: u32) -> [Actor; 5]
+    ensures { result ≡ tries_of q }
+{
+    [
+        Actor::Exec(q),
+        Actor::Load(q),
+        Actor::Store(q),
+        Actor::Fetch(q, 0),
+        Actor::Fetch(q, 1),
+    ]
+}
+
+impl Machine {
+    /// Processor q after its local words, which the machine doesn't take.
+    fn stretched(&self, q: u32) -> Option<Stretched>
+        ensures own { IfSome result (λ x. IsOwnAfter self.now.state q x.processor x.steps) }
+        ensures stops { IfSome result (λ x. is_local_next (words_of self.now.state q) self.now.state.limit x.processor ≡ false) }
+        ensures few { IfSome result (λ x. x.steps ≤ steps_left self.now.state) }
+        ensures none { IsNone result → processor_of self.now.state q ≡ None }
+    {
+        let mut processor = match self.processors.get(q as usize) {
+            Some(Some(processor)) => *processor,
+            _ => return None,
+        };
+        let program = program_at(&self.programs, self.program_of[q as usize]);
+        let steps = stretch(&mut processor, program, self.limit);
+        Some(Stretched { processor, steps })
+    }
+
+    /// Takes the local words of processor q.
+    fn run_local(&mut self, q: u32, journal: &mut Journal) -> Result<(), NoMemory>
+        requires { steps_in journal.old + steps_left self.old.state < 2 ^ 64 }
+        ensures ok { OnOk result (Gained journal.old journal.new (λ s. Stretch q self.old.state s self.new.state)) }
+        ensures err { OnErr result (Gained journal.old journal.new (λ s. After self.old.state s self.new.state)) }
+        ensures room { steps_in journal.new + steps_left self.new.state ≤ steps_in journal.old + steps_left self.old.state }
+        ensures starts { self.new.starts ≡ self.old.starts }
+    {
+        self.keeps();
+        let Some(after) = self.stretched(q) else {
+            return Ok(());
+        };
+        if after.steps == 0 {
+            return Ok(());
+        }
+        journal.push(Actor::Exec(q), after.steps)?;
+        self.put_back(q, after.processor, after.steps);
+        Ok(())
+    }
+
+    /// Takes one step of an actor, where it has one.
+    fn try_step(&mut self, actor: Actor, journal: &mut Journal) -> Result<(), NoMemory>
+        requires { steps_in journal.old + steps_left self.old.state < 2 ^ 64 }
+        ensures ok { OnOk result (Gained journal.old journal.new (λ s. Tried actor self.old.state s self.new.state)) }
+        ensures err { OnErr result (Gained journal.old journal.new (λ s. After self.old.state s self.new.state)) }
+        ensures room { steps_in journal.new + steps_left self.new.state ≤ steps_in journal.old + steps_left self.old.state }
+        ensures starts { self.new.starts ≡ self.old.starts }
+    {
+        self.keeps();
+        if !self.enabled(actor) {
+            return Ok(());
+        }
+        journal.push(actor, 1)?;
+        let _took = self.step(actor);
+        Ok(())
+    }
+
+    /// Takes one step of each thing that processor q tries, where it has one.
+    fn run_tries(&mut self, q: u32, journal: &mut Journal) -> Result<(), NoMemory>
+        requires { steps_in journal.old + steps_left self.old.state < 2 ^ 64 }
+        ensures ok { OnOk result (Gained journal.old journal.new (λ s. InTurn (tries_of q) self.old.state s self.new.state)) }
+        ensures err { OnErr result (Gained journal.old journal.new (λ s. After self.old.state s self.new.state)) }
+        ensures room { steps_in journal.new + steps_left self.new.state ≤ steps_in journal.old + steps_left self.old.state }
+        ensures starts { self.new.starts ≡ self.old.starts }
+    {
+        let actors = tries(q);
+        for actor in &actors {
+            self.try_step(*actor, journal)?;
+        }
+        Ok(())
+    }
+
+    /// What processor q does in a round.
+    fn turn(&mut self, q: u32, journal: &mut Journal) -> Result<(), NoMemory>
+        requires { steps_in journal.old + steps_left self.old.state < 2 ^ 64 }
+        ensures ok { OnOk result (Gained journal.old journal.new (λ s. Turned q self.old.state s self.new.state)) }
+        ensures err { OnErr result (Gained journal.old journal.new (λ s. After self.old.state s self.new.state)) }
+        ensures room { steps_in journal.new + steps_left self.new.state ≤ steps_in journal.old + steps_left self.old.state }
+        ensures starts { self.new.starts ≡ self.old.starts }
+    {
+        self.run_local(q, journal)?;
+        self.run_tries(q, journal)
+    }
+
+    /// One round: each processor in turn. Where the machine isn't final it takes a step.
+    fn round(&mut self, journal: &mut Journal) -> Result<(), NoMemory>
+        requires { steps_in journal.old + steps_left self.old.state < 2 ^ 64 }
+        ensures ok { OnOk result (Gained journal.old journal.new (λ s. Round 0 self.old.state s self.new.state)) }
+        ensures err { OnErr result (Gained journal.old journal.new (λ s. After self.old.state s self.new.state)) }
+        ensures room { steps_in journal.new + steps_left self.new.state ≤ steps_in journal.old + steps_left self.old.state }
+        ensures moves { OnOk result (IsFinal self.old.state ⊎ (steps_left self.new.state < steps_left self.old.state)) }
+        ensures starts { self.new.starts ≡ self.old.starts }
+    {
+        self.keeps();
+        for q in 0..PROCESSORS as u32 {
+            self.turn(q, journal)?;
+        }
+        Ok(())
+    }
+
+    /// Runs in the serial order until nothing can move, and says how the machine has come out. The
+    /// counts of the journal sum to less than 2^63. The one error is want of memory; the room for a
+    /// run is taken before its steps, so the machine is then the one after the steps that the
+    /// journal has gained.
+    pub fn run_serial(&mut self, journal: &mut Journal) -> Result<Ending, NoMemory>
+        requires { steps_in journal.old < 2 ^ 63 }
+        ensures serial { OnOk result (Gained journal.old journal.new (λ s. SerialSchedule self.old.state s self.new.state × IsRun self.old.state s self.new.state)) }
+        ensures stands { OnOk result (IsFinal self.new.state) }
+        ensures rests { OnOk result (IsAtRest self.new.state) }
+        ensures ending { IfOk result (λ ending. ending ≡ ending_of self.new.state) }
+        ensures refused { OnErr result (Gained journal.old journal.new (λ s. IsRun self.old.state s self.new.state)) }
+        ensures starts { self.new.starts ≡ self.old.starts }
+    {
+        self.keeps();
+        loop {
+            if let Some(ending) = self.ending() {
+                return Ok(ending);
+            }
+            self.round(journal)?;
+        }
+    }
+}
