@@ -1,0 +1,18 @@
+//! The text of a job, read, and the machine that it describes.
+//!
+//! A job asks for memory, a limit, values in memory, programs and the processors that run them.
+//! `read_job` reads its text, and answers a text that is none with the first failing line. What
+//! the programs' texts say isn't judged here.
+#![tactic(auto)]
+
+mod cause;
+mod fault;
+mod job;
+mod reading;
+mod stage;
+
+pub use fault::JobFault;
+pub use job::{
+    Job, MOST_LIMIT, MOST_MEMORY, MOST_NAME, MOST_PROGRAMS, MOST_TEXT, PROCESSORS, ProgramText,
+    Value,
+};
