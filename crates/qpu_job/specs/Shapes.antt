@@ -1,5 +1,7 @@
 -- The shapes of a job's lines outside programs. This project's own.
 use Rattle.std.specs.Prelude.{ℕ, List, [], ◌∷◌, Option, Some, None, option_map, option_and_then, codes, bytes_eq, if◌then◌else◌}
+use Rattle.qpu_job.specs.declared.shape.Shape.{Shape as Told}
+use Rattle.qpu_job.specs.declared.shape.Shape.TheVariants as told
 use Rattle.qpu_job.specs.Words.{number_of, numbers_of, name_of}
 
 -- what a line says
@@ -55,3 +57,13 @@ shape_of (word ∷ rest) =
     else if bytes_eq word (codes "program") then program_shape rest
     else if bytes_eq word (codes "start") then start_shape rest
     else None
+
+-- what a shape says, without where it lies in memory
+abbrev pub said : Told → Shape
+said told.Empty = Empty
+said told.Opening = Opening
+said (told.Memory words) = Memory words
+said (told.Limit limit) = Limit limit
+said (told.Data address values) = Data address values.items
+said (told.Program name) = Program name.now
+said (told.Start q name uniforms) = Start q name.now uniforms

@@ -1,6 +1,7 @@
 -- The words of a line, and those that are numbers and names. This project's own.
-use Rattle.std.specs.Prelude.{ℕ, ◌^◌, ◌==◌, ◌&&◌, ◌||◌, Bool, nat_lt, nat_le, List, [], ◌∷◌, length, filter, Option, Some, None, option_map, option_and_then, if◌then◌else◌}
+use Rattle.std.specs.Prelude.{ℕ, ◌^◌, ◌==◌, ◌&&◌, ◌||◌, Bool, nat_lt, nat_le, List, [], ◌∷◌, length, map, filter, Option, Some, None, option_map, option_and_then, if◌then◌else◌}
 use Rattle.std.specs.List.{list_all, before_first, slice_split}
+use Rattle.std.specs.Borrow.{Bor}
 use Rattle.qpu_token.specs.Words.{is_blank, is_digit, is_run, is_hexadecimal, is_name_byte, number_value}
 use Rattle.qpu_job.specs.declared.job.TheConstants.{MOST_NAME}
 
@@ -45,3 +46,7 @@ is_name word = nat_lt 0 (length word) && nat_le (length word) MOST_NAME && list_
 -- the name that a word is
 unfoldable pub name_of : List ℕ → Option (List ℕ)
 name_of word = if is_name word then Some word else None
+
+-- words as they are lent, as their bytes
+abbrev pub texts_of : List (Bor (List ℕ)) → List (List ℕ)
+texts_of words = map (λ word. word.now) words

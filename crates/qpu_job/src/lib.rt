@@ -5,11 +5,16 @@
 //! the programs' texts say isn't judged here.
 #![tactic(auto)]
 
+mod bytes;
 mod cause;
 mod fault;
 mod job;
+mod line;
+mod number;
 mod reading;
+mod shape;
 mod stage;
+mod word;
 
 pub use fault::JobFault;
 pub use job::{
