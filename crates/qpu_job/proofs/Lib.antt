@@ -1,2 +1,4 @@
 pub mod WordLemmas
 pub mod LineLemmas
+pub mod SaidLemmas
+pub mod CodeLemmas

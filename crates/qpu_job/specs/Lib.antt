@@ -6,3 +6,5 @@ pub mod Above
 pub mod Faults
 pub mod Reading
 pub mod ReadJob
+pub mod Programs
+pub mod Opening

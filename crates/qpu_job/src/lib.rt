@@ -7,11 +7,13 @@
 
 mod bytes;
 mod cause;
+mod code;
 mod fault;
 mod job;
 mod line;
 mod number;
 mod reading;
+mod said;
 mod shape;
 mod stage;
 mod word;
