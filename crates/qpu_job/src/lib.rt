@@ -5,9 +5,11 @@
 //! the programs' texts say isn't judged here.
 #![tactic(auto)]
 
+mod above;
 mod bytes;
 mod cause;
 mod fault;
+mod faulty;
 mod job;
 mod line;
 mod number;
@@ -21,3 +23,4 @@ pub use job::{
     Job, MOST_LIMIT, MOST_MEMORY, MOST_NAME, MOST_PROGRAMS, MOST_TEXT, PROCESSORS, ProgramText,
     Value,
 };
+pub use reading::read_job;
