@@ -24,3 +24,6 @@ pub use job::{
     Value,
 };
 pub use reading::read_job;
+
+#[cfg(test)]
+mod tests;
