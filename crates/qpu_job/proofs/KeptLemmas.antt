@@ -81,7 +81,7 @@ any_none p (x ∷ xs) none = rw (none 0 x (omega arith)) (any_none p xs (λ k d 
 pub none_any : {X : Type 0} (p : X → Bool) (xs : List X) → position p xs ≡ None → list_any p xs ≡ false
 none_any p xs h = any_none p xs (λ k d below. fails_before_first p xs k d (omega (arith, none_first p xs h, below)))
 
-any_push : {X : Type 0} (p : X → Bool) (xs : List X) (y : X) → list_any p xs ≡ false → p y ≡ false → list_any p (xs ++ y ∷ []) ≡ false
+pub any_push : {X : Type 0} (p : X → Bool) (xs : List X) (y : X) → list_any p xs ≡ false → p y ≡ false → list_any p (xs ++ y ∷ []) ≡ false
 any_push p [] y none last = rw last refl
 any_push p (x ∷ xs) y none last =
     let parts = or_parts (p x) (list_any p xs) none in

@@ -4,3 +4,6 @@ pub mod AboveLemmas
 pub mod KeptLemmas
 pub mod LineKeeps
 pub mod LoopLemmas
+pub mod GrammarLemmas
+pub mod GrammarOnly
+pub mod GrammarFound

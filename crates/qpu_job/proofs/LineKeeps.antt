@@ -256,7 +256,8 @@ program_taken total line rest more above program less is h =
           (λ start s. record { q = s.q; program = omega (arith, s.program, one_more) }) above.plan.starts h.starts;
     }
 
-abbrev by_end : ProgramOf → Above → List ℕ → Bool → Result Above JobFault
+-- what a line inside a program comes to, and the end of the text, by their tests
+abbrev pub by_end : ProgramOf → Above → List ℕ → Bool → Result Above JobFault
 by_end program above text end = if end then Ok (with_program above program) else Ok (with_line above program text)
 
 inside_by : (total line rest more : ℕ) (above next : Above) (program : ProgramOf) (text : List ℕ) (end : Bool) → length text + more ≡ rest → 0 < length text → above.inside ≡ Some program
@@ -303,10 +304,10 @@ ended_by total line rest above is h =
       processors = h.processors;
     }
 
-abbrev end_of : ℕ → Above → Bool → Result Plan JobFault
+abbrev pub end_of : ℕ → Above → Bool → Result Plan JobFault
 end_of line above ended = if ended then Ok above.plan else Err (fault.Line line)
 
-limited : (stage : Stage) → is_limited stage ≡ true → stage ≡ Limited
+pub limited : (stage : Stage) → is_limited stage ≡ true → stage ≡ Limited
 limited Nothing h = absurd (cc)
 limited Opened h = absurd (cc)
 limited Sized h = absurd (cc)

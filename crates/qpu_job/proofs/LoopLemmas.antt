@@ -10,13 +10,13 @@ use Rattle.qpu_job.specs.declared.cause.Cause.TheVariants as cause
 use Rattle.qpu_job.specs.Lines.{lines, content}
 use Rattle.qpu_job.specs.Words.{words_of}
 use Rattle.qpu_job.specs.Shapes.{Shape, shape_of}
-use Rattle.qpu_job.specs.Plan.{Plan, Program, plan_of}
+use Rattle.qpu_job.specs.Plan.{Program, plan_of}
 use Rattle.qpu_job.specs.Above.{Above, at_first, with_line, with_program}
 use Rattle.qpu_job.specs.Faults.{first_cause, fault_at}
 use Rattle.qpu_job.specs.Reading.{is_end, is_limited, unless_fault, after_shape, after_outside, after_inside, after_line_in, after_line, at_end, read_lines, job_of, Fails, Gives, IsReadFault}
 use Rattle.qpu_job.specs.ReadJob.{IsReadJob}
 use Rattle.qpu_job.proofs.KeptLemmas.{IsAbove, begins}
-use Rattle.qpu_job.proofs.LineKeeps.{line_keeps, end_keeps}
+use Rattle.qpu_job.proofs.LineKeeps.{end_of, line_keeps, end_keeps}
 
 -- the text is read up to the rest, of which the first line has this number
 pub record IsRead (text rest : List ℕ) (number : ℕ) (above : Above) : Type 0 where
@@ -111,9 +111,6 @@ told_line_in : (number : ℕ) (above : Above) (inside : Option Program) (line : 
 unfolding after_outside after_inside
 told_line_in number above None line = told_shape number above (shape_of (words_of (content line)))
 told_line_in number above (Some program) line = told_either (is_end line) (with_program above program) (with_line above program line) number
-
-abbrev end_of : ℕ → Above → Bool → Result Plan JobFault
-end_of number above b = if b then Ok above.plan else Err (fault.Line number)
 
 told_end_by : (number : ℕ) (above : Above) (b : Bool) → Tells (end_of number above b)
 told_end_by number above true = tt

@@ -6,3 +6,4 @@ pub mod Above
 pub mod Faults
 pub mod Reading
 pub mod ReadJob
+pub mod Grammar
