@@ -1,15 +1,16 @@
 -- The words of a text, blank by blank, and the numbers that words write, word by word.
-use Rattle.std.proofs.Common.{◌≡◌, ℕ, ◌+◌, ◌<◌, ◌≤◌, Bool, false, List, [], ◌∷◌, ◌++◌, length, take, drop, get_or, Option, Some, None, All, refl, ap, sym, ◌∙◌, append_assoc, append-nil, add-one, arith}
+use Rattle.std.proofs.Common.{◌≡◌, ℕ, zero, suc, ◌+◌, ◌<◌, ◌≤◌, Bool, true, false, List, [], ◌∷◌, ◌++◌, length, take, drop, get_or, Option, Some, None, All, refl, ap, sym, ◌∙◌, append_assoc, append-nil, add-one, arith}
 use Rattle.std.specs.Prelude.{position, filter, option_map}
-use Rattle.std.specs.List.{position_or_len, slice_split}
+use Rattle.std.specs.List.{position_or_len, slice_split, list_all}
 use Rattle.std.specs.Borrow.{Bor}
 use Rattle.std.proofs.Math.Seq.{drop-cons}
+use Rattle.std.proofs.lemmas.Bool.{and_parts}
 use Rattle.std.proofs.lemmas.Bool.Decides.{nat_tests}
 use Rattle.std.proofs.lemmas.List.{drop_all}
 use Rattle.std.proofs.lemmas.List.Elements.{filter-append}
 use Rattle.std.proofs.lemmas.List.Splits.{slice_split_first, slice_split_none}
 use Rattle.std.proofs.lemmas.List.Sums.{fails_before_first}
-use Rattle.qpu_token.specs.Words.{is_blank}
+use Rattle.qpu_token.specs.Words.{is_blank, is_name_byte}
 use Rattle.qpu_job.specs.Words.{is_some_word, words_between, number_of, numbers_of, texts_of}
 
 pub at_first : {X : Type 0} (p : X → Bool) (xs : List X) (i : ℕ) → position p xs ≡ Some i → (position_or_len p xs < length xs) × (position_or_len p xs ≡ i)
@@ -74,3 +75,13 @@ numbers_done words i front all past so_far =
     let nothing : drop i words ≡ [] = drop_all i words past in
     let here : with_numbers front (numbers_of (texts_of (drop i words))) ≡ Some front = rw nothing (ap (λ (t : List ℕ). Some t) (append-nil front)) in
     sym so_far ∙ here
+
+-- the bytes of names are ASCII
+
+name_byte_small : (byte : ℕ) → is_name_byte byte ≡ true → byte < 128
+name_byte_small byte h = grind (arith, nat_tests)
+
+pub name_is_ascii : (name : List ℕ) → list_all is_name_byte name ≡ true → (i : ℕ) → get_or name i 0 < 128
+name_is_ascii [] h i = omega arith
+name_is_ascii (byte ∷ name) h zero = name_byte_small byte (and_parts (is_name_byte byte) (list_all is_name_byte name) h).0
+name_is_ascii (byte ∷ name) h (suc i) = name_is_ascii name (and_parts (is_name_byte byte) (list_all is_name_byte name) h).1 i

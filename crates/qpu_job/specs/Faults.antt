@@ -1,8 +1,9 @@
 -- The faults of one line, given what stands above it: for each cause whether it holds, and the first
 -- that does. This project's own.
-use Rattle.std.specs.Prelude.{ℕ, ◌+◌, ◌/◌, ◌%◌, ◌==◌, ◌||◌, Bool, true, false, not, nat_lt, nat_le, List, [], ◌∷◌, length, Option, find, is_none, bytes_eq}
+use Rattle.std.specs.Prelude.{ℕ, ◌+◌, ◌/◌, ◌%◌, ◌==◌, ◌||◌, Bool, true, false, not, nat_lt, nat_le, List, [], ◌∷◌, length, Option, find, is_some, is_none}
 use Rattle.std.specs.List.{list_any}
 use Rattle.qpu_job.specs.declared.job.TheConstants.{MOST_MEMORY, MOST_LIMIT, MOST_PROGRAMS, PROCESSORS}
+use Rattle.qpu_job.specs.declared.above.TheConstants.{WORD_BYTES}
 use Rattle.qpu_job.specs.declared.fault.JobFault.{JobFault}
 use Rattle.qpu_job.specs.declared.fault.JobFault.TheVariants as fault
 use Rattle.qpu_job.specs.declared.cause.Cause.{Cause}
@@ -10,7 +11,7 @@ use Rattle.qpu_job.specs.declared.cause.Cause.TheVariants as cause
 use Rattle.qpu_job.specs.declared.stage.Stage.{Stage}
 use Rattle.qpu_job.specs.declared.stage.Stage.TheVariants.{Nothing, Opened, Sized, Limited}
 use Rattle.qpu_job.specs.Shapes.{Shape, Empty, Opening, Memory, Limit, Data, Program, Start}
-use Rattle.qpu_job.specs.Above.{Above, names, started, index_of}
+use Rattle.qpu_job.specs.Above.{Above, index_in}
 
 -- the shapes that stand at a stage
 unfoldable pub stands : Stage → Shape → Bool
@@ -33,8 +34,8 @@ is_too_much above (Program name) = nat_le MOST_PROGRAMS (length above.plan.progr
 is_too_much above shape = false
 
 unfoldable pub is_twice : Above → Shape → Bool
-is_twice above (Program name) = list_any (λ other. bytes_eq other name) (names above.plan)
-is_twice above (Start q name uniforms) = list_any (λ other. other == q) (started above.plan)
+is_twice above (Program name) = is_some (index_in above.plan.programs name)
+is_twice above (Start q name uniforms) = list_any (λ start. start.q == q) above.plan.starts
 is_twice above shape = false
 
 unfoldable pub is_no_processor : Shape → Bool
@@ -42,13 +43,13 @@ is_no_processor (Start q name uniforms) = nat_le PROCESSORS q
 is_no_processor shape = false
 
 unfoldable pub is_no_program : Above → Shape → Bool
-is_no_program above (Start q name uniforms) = is_none (index_of name above.plan)
+is_no_program above (Start q name uniforms) = is_none (index_in above.plan.programs name)
 is_no_program above shape = false
 
--- the last value lies outside memory where some does
+-- some value lies outside memory where the last does
 unfoldable pub is_no_place : Above → Shape → Bool
 is_no_place above (Data address values) =
-    not (address % 4 == 0) || nat_lt above.plan.words (address / 4 + length values)
+    not (address % WORD_BYTES == 0) || not (nat_le (address / WORD_BYTES + length values) above.plan.words)
 is_no_place above shape = false
 
 abbrev pub has_fault : Above → Shape → Cause → Bool

@@ -8,3 +8,4 @@ pub mod Reading
 pub mod ReadJob
 pub mod Programs
 pub mod Opening
+pub mod Grammar

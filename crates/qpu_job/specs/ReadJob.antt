@@ -1,17 +1,22 @@
 -- What each job that was read keeps: the bounds on its parts. This project's own.
-use Rattle.std.specs.Prelude.{◌≡◌, ℕ, ◌<◌, ◌≤◌, ◌&&◌, Bool, true, not, nat_eq, List, [], ◌∷◌, length, All, bytes_eq}
+use Rattle.std.specs.Prelude.{◌≡◌, ℕ, ◌<◌, ◌≤◌, ◌&&◌, Bool, true, not, nat_eq, List, [], ◌∷◌, length, map, All, bytes_eq}
 use Rattle.std.specs.List.{list_any}
 use Rattle.qpu_machine.specs.declared.start.Start.{Start}
 use Rattle.qpu_job.specs.declared.job.Value.{Value}
 use Rattle.qpu_job.specs.declared.job.TheConstants.{MOST_MEMORY, MOST_LIMIT, MOST_PROGRAMS, MOST_TEXT, PROCESSORS}
 use Rattle.qpu_job.specs.Words.{is_name}
 use Rattle.qpu_job.specs.Plan.{Plan, Program}
-use Rattle.qpu_job.specs.Above.{names, started}
 
 -- no two are the same, by a test
 abbrev pub differ : {X : Type 0} → (X → X → Bool) → List X → Bool
 differ same [] = true
 differ same (x ∷ xs) = not (list_any (same x) xs) && differ same xs
+
+abbrev pub names : Plan → List (List ℕ)
+names plan = map (λ program. program.name) plan.programs
+
+abbrev pub started : Plan → List ℕ
+started plan = map (λ start. start.q) plan.starts
 
 -- a program's name is one, and its text and line are within the longest text
 pub record IsProgram (program : Program) : Type 0 where

@@ -2,11 +2,10 @@
 use Rattle.std.specs.Prelude.{◌≡◌, ℕ, ◌+◌, ◌&&◌, Bool, true, false, List, [], ◌∷◌, Option, Some, None, is_none, codes, bytes_eq, Result, Ok, Err, if◌then◌else◌}
 use Rattle.qpu_job.specs.declared.fault.JobFault.{JobFault}
 use Rattle.qpu_job.specs.declared.fault.JobFault.TheVariants as fault
-use Rattle.qpu_job.specs.declared.job.Job.{Job}
 use Rattle.qpu_job.specs.declared.cause.Cause.{Cause}
 use Rattle.qpu_job.specs.declared.stage.Stage.{Stage}
 use Rattle.qpu_job.specs.declared.stage.Stage.TheVariants.{Nothing, Opened, Sized, Limited}
-use Rattle.qpu_job.specs.Plan.{Plan, Program, plan_of}
+use Rattle.qpu_job.specs.Plan.{Plan, Program}
 use Rattle.qpu_job.specs.Lines.{lines, content}
 use Rattle.qpu_job.specs.Words.{words_of}
 use Rattle.qpu_job.specs.Shapes.{Shape, shape_of}
@@ -27,11 +26,18 @@ after_shape number above (Some shape) = unless_fault number above shape (first_c
 abbrev pub is_end : List ℕ → Bool
 is_end line = bytes_eq (content line) (codes "endprogram")
 
--- a line outside programs, and inside of one
-unfoldable pub after_line_in : Option Program → ℕ → Above → List ℕ → Result Above JobFault
-after_line_in None number above line = after_shape number above (shape_of (words_of (content line)))
-after_line_in (Some program) number above line =
+-- a line outside programs
+unfoldable pub after_outside : ℕ → Above → List ℕ → Result Above JobFault
+after_outside number above line = after_shape number above (shape_of (words_of (content line)))
+
+-- a line inside of one
+unfoldable pub after_inside : Program → Above → List ℕ → Result Above JobFault
+after_inside program above line =
     if is_end line then Ok (with_program above program) else Ok (with_line above program line)
+
+abbrev pub after_line_in : Option Program → ℕ → Above → List ℕ → Result Above JobFault
+after_line_in None number above line = after_outside number above line
+after_line_in (Some program) number above line = after_inside program above line
 
 -- what stands above the next line, or the fault of this one
 abbrev pub after_line : ℕ → Above → List ℕ → Result Above JobFault
@@ -61,8 +67,23 @@ read_lines number above (line ∷ more) =
 unfoldable pub job_of : List ℕ → Result Plan JobFault
 job_of text = read_lines 1 at_first (lines text)
 
--- a call answered what is due for a text; want of memory is free
-abbrev pub Answers : Result Plan JobFault → Result Job JobFault → Type 0
-Answers due (Ok job) = due ≡ Ok (plan_of job)
-Answers due (Err fault.Memory) = Unit {0}
-Answers due (Err fault) = due ≡ Err fault
+-- a call answered what is due, seen without where it lies in memory; want of memory is free
+
+abbrev pub Fails : {Y : Type 0} → JobFault → Result Y JobFault → Type 0
+Fails fault.Memory due = Unit {0}
+Fails other due = due ≡ Err other
+
+abbrev pub Gives : {X Y : Type 0} → (X → Y) → Result X JobFault → Result Y JobFault → Type 0
+Gives view (Ok x) due = due ≡ Ok (view x)
+Gives view (Err fault) due = Fails fault due
+
+-- the same of a call that changes what stands above
+abbrev pub Goes : Above → Result (Unit {0}) JobFault → Result Above JobFault → Type 0
+Goes next (Ok _) due = due ≡ Ok next
+Goes next (Err fault) due = Fails fault due
+
+-- the faults that reading tells
+abbrev pub IsReadFault : JobFault → Type 0
+IsReadFault (fault.NotBuilt number) = ⊥
+IsReadFault (fault.Check program check) = ⊥
+IsReadFault other = Unit {0}

@@ -1,6 +1,10 @@
 //! Why a text is no job, or a job no machine.
 
+ghost use Rattle.std.specs.Prelude.{◌≡◌};
+ghost use Rattle.qpu_job.specs.declared.fault.JobFault.TheVariants.{Memory};
+
 use qpu_hazard::CheckFault;
+use qpu_word::NoMemory;
 
 /// Why a text is no job, or why there is no machine for a job. Lines count from 1. The first
 /// failing line is told, and in it the first of the order in which the causes stand here.
@@ -32,4 +36,12 @@ pub enum JobFault {
     },
     /// Want of memory.
     Memory,
+}
+
+impl From<NoMemory> for JobFault {
+    ghost from_gives = { λ _ fault. fault ≡ Memory };
+
+    fn from(_want: NoMemory) -> JobFault {
+        JobFault::Memory
+    }
 }

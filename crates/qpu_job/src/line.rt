@@ -1,6 +1,6 @@
 //! The lines of a text.
 
-ghost use Rattle.std.specs.Prelude.{◌≡◌, ◌<◌, ◌-◌, ◌==◌, [], ◌∷◌, length, slice_index, position, IfSome, MatchOption, true};
+ghost use Rattle.std.specs.Prelude.{◌≡◌, ◌<◌, ◌+◌, ◌-◌, ◌==◌, [], ◌∷◌, length, slice_index, position, IfSome, MatchOption, true};
 ghost use Rattle.qpu_job.specs.Lines.{is_lf, lines, without_last, content};
 
 /// Line feed, and carriage return.
@@ -11,7 +11,8 @@ const CR: u8 = b'\r';
 /// The first line of a text, with its line feed, and what stands behind it. None at the end.
 pub(crate) fn first_line(text: &str) -> Option<(&str, &str)>
     ensures cases { MatchOption result (lines text.now ≡ []) (λ r. lines text.now ≡ r.0.now ∷ lines r.1.now) }
-    ensures shorter { IfSome result (λ r. length r.1.now < length text.now) }
+    ensures some { IfSome result (λ r. 0 < length r.0.now) }
+    ensures parts { IfSome result (λ r. length r.0.now + length r.1.now ≡ length text.now) }
 {
     if text.is_empty() {
         return None;

@@ -1,6 +1,8 @@
 //! What a line of a job outside programs says.
 
-ghost use Rattle.std.specs.Prelude.{◌≡◌, ◌∷◌, IfOk, option_map, option_copied, bytes_eq};
+ghost use Rattle.std.specs.Prelude.{◌≡◌, ◌∷◌, true, IfOk, option_map, option_copied, bytes_eq};
+ghost use Rattle.std.specs.List.{list_all};
+ghost use Rattle.qpu_token.specs.Words.{is_name_byte};
 ghost use Rattle.qpu_job.specs.Words.{texts_of, name_of, numbers_of};
 ghost use Rattle.qpu_job.specs.Shapes.{said, Data, opening_shape, memory_shape, limit_shape, data_shape, program_shape, start_shape, shape_of};
 
@@ -23,9 +25,9 @@ pub(crate) enum Shape<'a> {
     /// `data A V ..`, with the byte address and at least one value.
     Data(u32, Vec<u32>),
     /// `program NAME`.
-    Program(&'a [u8]),
+    Program(&'a str),
     /// `start Q NAME U`, with the byte address of the uniforms.
-    Start(u32, &'a [u8], u32),
+    Start(u32, &'a str, u32),
 }
 
 /// The shape of a line of these words. None where it has none.
@@ -159,11 +161,22 @@ fn start_shape<'a>(rest: &[&'a [u8]]) -> Option<Shape<'a>>
 
 /// The name that a word is.
 #[tactic(auto, unfolding(crate::specs::Words::name_of))]
-fn name_of(word: &[u8]) -> Option<&[u8]>
+fn name_of(word: &[u8]) -> Option<&str>
     ensures { option_copied result ≡ name_of word.now }
 {
     if is_name(word) {
-        return Some(word);
+        return Some(text_of(word));
     }
     None
+}
+
+/// The text of bytes of a name.
+fn text_of(name: &[u8]) -> &str
+    requires { list_all is_name_byte name.now ≡ true }
+    ensures { result.now ≡ name.now }
+{
+    match std::str::from_utf8(name) {
+        Ok(text) => text,
+        Err(_) => unreachable!(),
+    }
 }
