@@ -1,6 +1,7 @@
 -- Programs read line after line.
-use Rattle.std.proofs.Common.{◌≡◌, ℕ, ◌+◌, ◌<◌, ◌≤◌, List, [], ◌∷◌, ◌++◌, length, map, take, drop, get_or, refl, ap, sym, ◌∙◌, arith, append_assoc, append-nil, length-append}
-use Rattle.std.proofs.lemmas.List.{take_more, take-append-drop, drop_more, map-append}
+use Rattle.std.proofs.Common.{◌≡◌, ℕ, All, ◌+◌, ◌<◌, ◌≤◌, List, [], ◌∷◌, ◌++◌, length, map, take, drop, get_or, refl, ap, sym, subst, ◌∙◌, arith, append_assoc, append-nil, length-append}
+use Rattle.std.proofs.lemmas.List.{take_more, take_all, take-append-drop, drop_more, map-append, get_or-map, length-map}
+use Rattle.std.proofs.lemmas.List.Elements.{All-nil, All-push}
 use Rattle.qpu_word.specs.declared.word.Word.{Word as WordOf}
 use Rattle.qpu_word.specs.declared.code.TheConstants.{PROGRAM_WORDS}
 use Rattle.qpu_flow.specs.Code.{numbers_of}
@@ -13,7 +14,9 @@ use Rattle.qpu_job.specs.declared.fault.JobFault.TheVariants as fault
 use Rattle.qpu_job.specs.declared.job.ProgramText.{ProgramText}
 use Rattle.qpu_job.specs.Lines.{lines}
 use Rattle.qpu_job.specs.Plan.{Program, program_of, programs_of}
-use Rattle.qpu_job.specs.Programs.{LineSays, Give, at_first, blank, word, IsCode, IsCodeFault, Takes, Refuses, HaveCodes, one_more, IsCodesFault, codes_of}
+use Rattle.qpu_job.specs.ReadJob.{IsProgram}
+use Rattle.qpu_job.specs.Opening.{IsShort}
+use Rattle.qpu_job.specs.Programs.{LineSays, Give, at_first, blank, word, IsCode, IsCodeFault, Takes, Refuses, HaveCodes, no_program, one_more, IsCodesFault, codes_of}
 
 pub numbers_more : (words : List WordOf) (w : WordOf) → numbers_of (words ++ w ∷ []) ≡ numbers_of words ++ w.0 ∷ []
 unfolding numbers_of
@@ -59,6 +62,7 @@ read_more program rest text behind line said old new read cut shorter says taken
     more Nothing old new gives says taken = rw taken (blank gives says)
     more (Word w) old new gives says taken = rw taken.0 (word gives says)
     more Other old new gives says taken = absurd taken
+
     few : (said : Said) (old new : List ℕ) → length old ≤ PROGRAM_WORDS → Takes said old new → length new ≤ PROGRAM_WORDS
     few Nothing old new at_most taken = rw taken at_most
     few (Word w) old new at_most taken = taken.1
@@ -74,18 +78,21 @@ read_all program rest line code read none = record {
 -- a line is refused
 pub read_fails : (program : Program) (rest text behind : List ℕ) (line : ℕ) (said : Said) (code : List ℕ) (e : JobFault) → HasRead program rest line code
     → lines rest ≡ text ∷ lines behind → LineSays text said → Refuses said line code e → IsCodeFault program e
-read_fails program rest text behind line said code (fault.NotBuilt at) read cut says refused =
-    (length read.above, refused.0 ∙ read.counts, record {
-      above = read.above;
-      line = text;
-      below = lines behind;
-      code = code;
-      all = read.all ∙ ap (λ more. read.above ++ more) cut;
-      gives = read.gives;
-      at_most = read.at_most;
-      counts = refl;
-      fails = record { said = said; says = says; unbuilt = refused.1 };
-    })
+read_fails program rest text behind line said code (fault.NotBuilt at) read cut says refused = (
+  length read.above,
+  refused.0 ∙ read.counts,
+  record {
+    above = read.above;
+    line = text;
+    below = lines behind;
+    code = code;
+    all = read.all ∙ ap (λ more. read.above ++ more) cut;
+    gives = read.gives;
+    at_most = read.at_most;
+    counts = refl;
+    fails = record { said = said; says = says; unbuilt = refused.1 };
+  },
+)
 read_fails program rest text behind line said code fault.Memory read cut says refused = tt
 read_fails program rest text behind line said code (fault.Line at) read cut says refused = absurd refused
 read_fails program rest text behind line said code (fault.Size at) read cut says refused = absurd refused
@@ -106,7 +113,7 @@ codes_more programs i program d codes code low is have one =
 
 pub codes_fail : (programs : List ProgramText) (i : ℕ) (program d : ProgramText) (codes : List Code) (e : JobFault) → i < length programs → program ≡ get_or programs i d
     → HaveCodes (programs_of (take i programs)) (codes_of codes) → IsCodeFault (program_of program) e → IsCodesFault (programs_of programs) e
-codes_fail programs i program d codes e low is have fails = record {
+codes_fail programs i program d codes (fault.NotBuilt line) low is have fails = record {
   above = programs_of (take i programs);
   program = program_of program;
   below = programs_of (drop (i + 1) programs);
@@ -117,3 +124,34 @@ codes_fail programs i program d codes e low is have fails = record {
   built = have;
   fails = fails;
 }
+codes_fail programs i program d codes fault.Memory low is have fails = tt
+codes_fail programs i program d codes (fault.Line at) low is have fails = absurd fails
+codes_fail programs i program d codes (fault.Size at) low is have fails = absurd fails
+codes_fail programs i program d codes (fault.Limit at) low is have fails = absurd fails
+codes_fail programs i program d codes (fault.Twice at) low is have fails = absurd fails
+codes_fail programs i program d codes (fault.Processor at) low is have fails = absurd fails
+codes_fail programs i program d codes (fault.NoProgram at) low is have fails = absurd fails
+codes_fail programs i program d codes (fault.Place at) low is have fails = absurd fails
+codes_fail programs i program d codes (fault.Check index check) low is have fails = absurd fails
+
+-- codes are as many as programs
+pub have_length : {programs : List Program} {codes : List (List ℕ)} → HaveCodes programs codes → length codes ≡ length programs
+have_length no_program = refl
+have_length (one_more {programs} {codes} {code} program have one) =
+    omega (arith, length-append codes (code ∷ []), length-append programs (program ∷ []), have_length have)
+
+-- and each is short enough
+pub have_short : {programs : List Program} {codes : List (List ℕ)} → HaveCodes programs codes → All IsShort codes
+have_short no_program = All-nil IsShort
+have_short (one_more {programs} {codes} {code} program have one) = All-push IsShort codes code (have_short have) one.at_most
+
+pub all_built : (programs : List ProgramText) (i : ℕ) (codes : List Code) → length programs ≤ i
+    → HaveCodes (programs_of (take i programs)) (codes_of codes) → HaveCodes (programs_of programs) (codes_of codes)
+all_built programs i codes high have = rw (← take_all i programs high) have
+
+pub program_at : (programs : List ProgramText) (i : ℕ) (program d : ProgramText) → All IsProgram (programs_of programs) → i < length programs → program ≡ get_or programs i d
+    → IsProgram (program_of program)
+program_at programs i program d all low is =
+    rw is
+    (subst IsProgram (get_or-map program_of programs i d (program_of d) low)
+    (all i (program_of d) (omega (arith, length-map programs program_of))))

@@ -9,3 +9,5 @@ pub mod LoopLemmas
 pub mod GrammarLemmas
 pub mod GrammarOnly
 pub mod GrammarFound
+pub mod CheckLemmas
+pub mod StartLemmas

@@ -1,9 +1,12 @@
 -- The machine of a job before any step, and why there is none. This project's own.
-use Rattle.std.specs.Prelude.{◌≡◌, ◌⊎◌, ℕ, ◌<◌, List, [], fold, length, replicate, slice_index_or, slice_set, All}
+use Rattle.std.specs.Prelude.{◌≡◌, ℕ, ◌<◌, ◌≤◌, List, [], fold, length, replicate, slice_index_or, slice_set, All}
+use Rattle.std.specs.List.{AllWithin}
+use Rattle.qpu_word.specs.declared.code.TheConstants.{PROGRAM_WORDS}
 use Rattle.qpu_flow.specs.Code.{AllInProfile, IsFirstOutside}
 use Rattle.qpu_hazard.specs.declared.checked.CheckFault.{CheckFault}
 use Rattle.qpu_hazard.specs.declared.checked.CheckFault.TheVariants as check
 use Rattle.qpu_hazard.specs.Refusal.{IsFirst, NoneRefusable}
+use Rattle.qpu_hazard.specs.Faults.{IsCheckFault}
 use Rattle.qpu_machine.specs.declared.start.Start.{Start}
 use Rattle.qpu_machine.specs.Machine.{MachineState, machine_of}
 use Rattle.qpu_machine.specs.Views.{Started}
@@ -28,6 +31,10 @@ opening_machine plan codes = machine_of (memory_of plan) plan.limit codes plan.s
 
 -- codes that run
 
+-- a program is short enough
+abbrev pub IsShort : List ℕ → Type 0
+IsShort code = length code ≤ PROGRAM_WORDS
+
 -- the programs of a job have these codes, all of whose words are in the profile, and no path of which
 -- breaks a hazard rule
 pub record AreClean (plan : Plan) (codes : List (List ℕ)) : Type 0 where
@@ -51,13 +58,25 @@ code_at codes k = slice_index_or codes k []
 -- before hazards
 abbrev pub IsChecked : List (List ℕ) → ℕ → CheckFault → Type 0
 IsChecked codes program (check.Word at fault) =
-    (program < length codes) × IsFirstOutside (code_at codes program) at fault
-    × ((k : ℕ) → k < program → AllInProfile (code_at codes k))
+    (program < length codes) × IsFirstOutside (code_at codes program) at fault × AllWithin AllInProfile codes 0 program
 IsChecked codes program (check.Hazard rule at before) =
     (program < length codes) × All AllInProfile codes
     × IsFirst (code_at codes program) (record { at = at; rule = rule; before = before })
-    × ((k : ℕ) → k < program → NoneRefusable (code_at codes k))
+    × AllWithin NoneRefusable codes 0 program
 IsChecked codes program check.Memory = ⊥
+
+-- the first of programs that is refused; want of memory is free
+abbrev pub IsCheckedFault : List (List ℕ) → JobFault → Type 0
+IsCheckedFault codes (fault.Check program refused) = IsChecked codes program refused
+IsCheckedFault codes fault.Memory = Unit {0}
+IsCheckedFault codes _ = ⊥
+
+-- what is said of one program, where it is refused; want of memory is free
+abbrev pub IsCheckOf : ℕ → List ℕ → JobFault → Type 0
+IsCheckOf index code (fault.Check program check.Memory) = ⊥
+IsCheckOf index code (fault.Check program refused) = (program ≡ index) × IsCheckFault code refused
+IsCheckOf index code fault.Memory = Unit {0}
+IsCheckOf index code _ = ⊥
 
 -- the programs of a job are built, and one of them is refused
 pub record IsRefused (plan : Plan) (program : ℕ) (fault : CheckFault) : Type 0 where

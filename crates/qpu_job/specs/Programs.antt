@@ -109,12 +109,18 @@ pub data HaveCodes : List Program → List (List ℕ) → Type 0 where
   no_program : HaveCodes [] []
   one_more : {programs : List Program} {codes : List (List ℕ)} {code : List ℕ} (program : Program) → HaveCodes programs codes → IsCode program.text code → HaveCodes (programs ++ program ∷ []) (codes ++ code ∷ [])
 
--- the first of the programs that isn't built
-pub record IsCodesFault (programs : List Program) (fault : JobFault) : Type 0 where
+-- the first of the programs that isn't built, by the job's line
+pub record IsFirstUnbuilt (programs : List Program) (line : ℕ) : Type 0 where
   pub above : List Program
   pub program : Program
   pub below : List Program
   pub codes : List (List ℕ)
   pub all : programs ≡ above ++ program ∷ below
   pub built : HaveCodes above codes
-  pub fails : IsCodeFault program fault
+  pub fails : IsCodeFault program (fault.NotBuilt line)
+
+-- why programs aren't built; want of memory is free
+abbrev pub IsCodesFault : List Program → JobFault → Type 0
+IsCodesFault programs (fault.NotBuilt line) = IsFirstUnbuilt programs line
+IsCodesFault programs fault.Memory = Unit {0}
+IsCodesFault programs _ = ⊥

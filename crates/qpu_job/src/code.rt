@@ -11,8 +11,8 @@ use crate::fault::JobFault;
 use crate::job::{MOST_TEXT, ProgramText};
 use crate::line::first_line;
 use crate::said::{Said, read_line};
-use qpu_word::code::PROGRAM_WORDS;
 use qpu_word::Word;
+use qpu_word::code::PROGRAM_WORDS;
 use std::alloc::Global;
 
 /// The words of a program.
@@ -69,10 +69,7 @@ fn read_code(alloc: Global, program: &ProgramText) -> Result<Code, JobFault>
 }
 
 /// The words of each program, or the first fault.
-pub(crate) fn read_codes(
-    alloc: Global,
-    programs: &[ProgramText],
-) -> Result<Vec<Code>, JobFault>
+pub(crate) fn read_codes(alloc: Global, programs: &[ProgramText]) -> Result<Vec<Code>, JobFault>
     requires { All IsProgram (programs_of programs.now) }
     ensures ok { IfOk result (λ codes. HaveCodes (programs_of programs.now) (codes_of codes.items)) }
     ensures err { IfErr result (λ fault. IsCodesFault (programs_of programs.now) fault) }

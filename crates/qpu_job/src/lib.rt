@@ -10,12 +10,14 @@
 mod above;
 mod bytes;
 mod cause;
+mod checking;
 mod code;
 mod fault;
 mod faulty;
 mod job;
 mod laws;
 mod line;
+mod making;
 mod number;
 mod reading;
 mod said;
@@ -29,6 +31,7 @@ pub use job::{
     Value,
 };
 pub use laws::reads_the_grammar;
+pub use making::make_machine;
 pub use reading::read_job;
 
 #[cfg(test)]
