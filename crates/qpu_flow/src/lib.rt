@@ -13,7 +13,7 @@ mod ways;
 
 pub use branch::BRANCH_ALWAYS;
 pub use control::{Control, Next, Rest, Target};
-pub use flow::{Flow, FlowFault};
+pub use flow::{Flow, FlowFault, first_outside};
 pub use slots::{Slots, Successors};
 
 #[cfg(test)]

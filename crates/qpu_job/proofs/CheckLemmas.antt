@@ -1,0 +1,75 @@
+-- Programs checked one after another.
+use Rattle.std.proofs.Common.{◌≡◌, ℕ, ◌+◌, ◌<◌, ◌≤◌, All, List, [], ◌∷◌, ◌++◌, length, take, get_or, refl, ap, sym, subst, ◌∙◌, arith}
+use Rattle.std.specs.List.{AllWithin}
+use Rattle.std.proofs.lemmas.List.{get_or-map, length-map, take_more}
+use Rattle.std.proofs.lemmas.List.Elements.{AllWithin-more}
+use Rattle.qpu_flow.specs.Code.{numbers_of, AllInProfile}
+use Rattle.qpu_flow.proofs.CodeLemmas.{length_numbers}
+use Rattle.qpu_hazard.specs.declared.checked.CheckFault.{CheckFault}
+use Rattle.qpu_hazard.specs.declared.checked.CheckFault.TheVariants as check
+use Rattle.qpu_hazard.specs.Refusal.{NoneRefusable}
+use Rattle.qpu_job.specs.declared.code.Code.{Code}
+use Rattle.qpu_job.specs.declared.fault.JobFault.{JobFault}
+use Rattle.qpu_job.specs.declared.fault.JobFault.TheVariants as fault
+use Rattle.qpu_job.specs.Programs.{codes_of}
+use Rattle.qpu_job.specs.Opening.{IsShort, IsCheckedFault, IsCheckOf}
+
+abbrev numbers : Code → List ℕ
+numbers code = numbers_of code.words.items
+
+pub length_codes : (codes : List Code) → length (codes_of codes) ≡ length codes
+length_codes codes = length-map codes numbers
+
+-- the code at an index
+pub code_is : (codes : List Code) (i : ℕ) (code d : Code) (e : List ℕ) → i < length codes → code ≡ get_or codes i d
+    → get_or (codes_of codes) i e ≡ numbers_of code.words.items
+code_is codes i code d e low is = get_or-map numbers codes i d e low ∙ ap numbers (sym is)
+
+-- what holds of the code at an index, whatever else there is for it
+pub holds_at : (P : List ℕ → Type 0) (codes : List Code) (i : ℕ) (code d : Code) → i < length codes → code ≡ get_or codes i d
+    → P (numbers_of code.words.items) → (e : List ℕ) → P (get_or (codes_of codes) i e)
+holds_at P codes i code d low is holds e = subst P (sym (code_is codes i code d e low is)) holds
+
+pub one_within : (P : List ℕ → Type 0) (codes : List Code) (i : ℕ) (code d : Code) → i < length codes → code ≡ get_or codes i d
+    → AllWithin P (codes_of codes) 0 i → P (numbers_of code.words.items) → AllWithin P (codes_of codes) 0 (i + 1)
+one_within P codes i code d low is below holds =
+    AllWithin-more P (codes_of codes) 0 i below (holds_at P codes i code d low is holds)
+
+pub one_taken : (codes : List Code) (i : ℕ) (code d : Code) (old new : List (List ℕ)) → i < length codes → code ≡ get_or codes i d
+    → old ≡ take i (codes_of codes) → new ≡ old ++ numbers_of code.words.items ∷ [] → new ≡ take (i + 1) (codes_of codes)
+one_taken codes i code d old new low is before made =
+    made ∙ rw (take_more (codes_of codes) i [] (omega (arith, length_codes codes)), code_is codes i code d [] low is, before) refl
+
+-- a code at an index is short enough
+pub short_numbers : (codes : List Code) (i : ℕ) (code d : Code) → All IsShort (codes_of codes) → i < length codes → code ≡ get_or codes i d
+    → length (numbers_of code.words.items) ≤ 4096
+short_numbers codes i code d short low is =
+    subst IsShort (code_is codes i code d [] low is) (short i [] (omega (arith, length_codes codes)))
+
+pub short_words : (codes : List Code) (i : ℕ) (code d : Code) → All IsShort (codes_of codes) → i < length codes → code ≡ get_or codes i d
+    → length code.words.items ≤ 4096
+short_words codes i code d short low is =
+    omega (arith, length_numbers code.words.items, short_numbers codes i code d short low is)
+
+-- one program is refused
+pub check_fails : (codes : List Code) (i : ℕ) (code d : Code) (e : JobFault) → i < length codes → code ≡ get_or codes i d
+    → All AllInProfile (codes_of codes) → AllWithin NoneRefusable (codes_of codes) 0 i → IsCheckOf i (numbers_of code.words.items) e
+    → IsCheckedFault (codes_of codes) e
+check_fails codes i code d (fault.Check program (check.Word at f)) low is inside clean fails =
+    rw fails.0 (
+      omega (arith, length_codes codes),
+      rw (code_is codes i code d [] low is) fails.1,
+      λ k e low' high. inside k e (omega (arith, length_codes codes)),
+    )
+check_fails codes i code d (fault.Check program (check.Hazard rule at before)) low is inside clean fails =
+    rw fails.0 (omega (arith, length_codes codes), inside, rw (code_is codes i code d [] low is) fails.1.1, clean)
+check_fails codes i code d (fault.Check program check.Memory) low is inside clean fails = absurd fails
+check_fails codes i code d (fault.NotBuilt at) low is inside clean fails = absurd fails
+check_fails codes i code d fault.Memory low is inside clean fails = tt
+check_fails codes i code d (fault.Line at) low is inside clean fails = absurd fails
+check_fails codes i code d (fault.Size at) low is inside clean fails = absurd fails
+check_fails codes i code d (fault.Limit at) low is inside clean fails = absurd fails
+check_fails codes i code d (fault.Twice at) low is inside clean fails = absurd fails
+check_fails codes i code d (fault.Processor at) low is inside clean fails = absurd fails
+check_fails codes i code d (fault.NoProgram at) low is inside clean fails = absurd fails
+check_fails codes i code d (fault.Place at) low is inside clean fails = absurd fails

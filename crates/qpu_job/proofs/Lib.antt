@@ -1,0 +1,13 @@
+pub mod WordLemmas
+pub mod LineLemmas
+pub mod SaidLemmas
+pub mod CodeLemmas
+pub mod AboveLemmas
+pub mod KeptLemmas
+pub mod LineKeeps
+pub mod LoopLemmas
+pub mod GrammarLemmas
+pub mod GrammarOnly
+pub mod GrammarFound
+pub mod CheckLemmas
+pub mod StartLemmas

@@ -1,0 +1,11 @@
+pub mod Plan
+pub mod Lines
+pub mod Words
+pub mod Shapes
+pub mod Above
+pub mod Faults
+pub mod Reading
+pub mod ReadJob
+pub mod Programs
+pub mod Opening
+pub mod Grammar

@@ -1,0 +1,52 @@
+-- The words of a line, and those that are numbers and names. This project's own.
+use Rattle.std.specs.Prelude.{ℕ, ◌^◌, ◌==◌, ◌&&◌, ◌||◌, Bool, nat_lt, nat_le, List, [], ◌∷◌, length, map, filter, Option, Some, None, option_map, option_and_then, if◌then◌else◌}
+use Rattle.std.specs.List.{list_all, before_first, slice_split}
+use Rattle.std.specs.Borrow.{Bor}
+use Rattle.qpu_token.specs.Words.{is_blank, is_digit, is_run, is_hexadecimal, is_name_byte, number_value}
+use Rattle.qpu_job.specs.declared.job.TheConstants.{MOST_NAME}
+
+-- a `#`
+abbrev pub is_hash : ℕ → Bool
+is_hash byte = byte == 35
+
+-- a line without its comment: what stands before the first `#`
+abbrev pub before_comment : List ℕ → List ℕ
+before_comment line = before_first is_hash line
+
+abbrev pub is_some_word : List ℕ → Bool
+is_some_word word = nat_lt 0 (length word)
+
+-- the words between spaces and tabs
+unfoldable pub words_between : List ℕ → List (List ℕ)
+words_between text = filter is_some_word (slice_split is_blank text)
+
+-- the words of a line
+abbrev pub words_of : List ℕ → List (List ℕ)
+words_of line = words_between (before_comment line)
+
+-- decimal digits, or `0x` and hexadecimal digits, at least one
+abbrev pub is_number : List ℕ → Bool
+is_number word = is_run is_digit is_digit word || is_hexadecimal word
+
+-- the number that a word writes, below 2^32
+unfoldable pub number_of : List ℕ → Option ℕ
+number_of word =
+    if is_number word && nat_lt (number_value word) (2 ^ 32) then Some (number_value word) else None
+
+-- the numbers that words write
+unfoldable pub numbers_of : List (List ℕ) → Option (List ℕ)
+numbers_of [] = Some []
+numbers_of (word ∷ words) =
+    option_and_then (λ number. option_map (λ numbers. number ∷ numbers) (numbers_of words)) (number_of word)
+
+-- 1 to 32 letters, digits or `_`
+abbrev pub is_name : List ℕ → Bool
+is_name word = nat_lt 0 (length word) && nat_le (length word) MOST_NAME && list_all is_name_byte word
+
+-- the name that a word is
+unfoldable pub name_of : List ℕ → Option (List ℕ)
+name_of word = if is_name word then Some word else None
+
+-- words as they are lent, as their bytes
+abbrev pub texts_of : List (Bor (List ℕ)) → List (List ℕ)
+texts_of words = map (λ word. word.now) words
