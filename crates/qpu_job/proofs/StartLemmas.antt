@@ -1,12 +1,13 @@
 -- Starts of differing processors are at most twelve.
-use Rattle.std.proofs.Common.{◌≡◌, ℕ, ◌<◌, ◌≤◌, Bool, true, false, All, List, [], ◌∷◌, length, map, refl, sym, ◌∙◌, arith}
+use Rattle.std.proofs.Common.{◌≡◌, ◌≢◌, ℕ, ◌<◌, ◌≤◌, Bool, true, false, All, List, [], ◌∷◌, length, get_or, map, refl, sym, ◌∙◌, arith}
 use Rattle.std.specs.Prelude.{◌&&◌, ◌||◌, not, nat_eq}
-use Rattle.std.specs.List.{AllByRecursion, IsDistinct, list_any}
+use Rattle.std.specs.List.{AllByRecursion, AllPairs, IsDistinct, list_any}
 use Rattle.std.proofs.lemmas.Bool.{and_parts}
 use Rattle.std.proofs.lemmas.Bool.Decides.{nat_tests}
-use Rattle.std.proofs.lemmas.List.{length-map}
+use Rattle.std.proofs.lemmas.List.{length-map, get_or-map}
 use Rattle.std.proofs.lemmas.List.Elements.{All-head, All-tail, All-map, All-weaker}
 use Rattle.std.proofs.lemmas.Map.Steps.{length-le_from_distinct_below}
+use Rattle.std.proofs.lemmas.Map.Keys.{apart_from_distinct}
 use Rattle.qpu_machine.specs.declared.start.Start.{Start}
 use Rattle.qpu_job.specs.Plan.{Plan}
 use Rattle.qpu_job.specs.ReadJob.{IsReadJob, IsStart, differ, started}
@@ -50,3 +51,14 @@ few_starts plan is =
       length-map plan.starts (λ (start : Start). start.q),
       length-le_from_distinct_below (started plan) 12 (distinct_of (started plan) is.processors) (λ q any. below_of (started plan) 12 q low any),
     )
+
+pub starts_differ : (plan : Plan) → IsReadJob plan → AllPairs (λ s t. s.q ≢ t.q) plan.starts
+starts_differ plan is i j d low high same =
+    let first : get_or (started plan) i d.q ≡ (get_or plan.starts i d).q = get_or-map (λ (start : Start). start.q) plan.starts i d d.q (omega arith) in
+    let second : get_or (started plan) j d.q ≡ (get_or plan.starts j d).q = get_or-map (λ (start : Start). start.q) plan.starts j d d.q high in
+    let apart : nat_eq (get_or (started plan) i d.q) (get_or (started plan) j d.q) ≡ false =
+    apart_from_distinct nat_eq (started plan) i j d.q (distinct_of (started plan) is.processors) low (omega (arith, high, length-map plan.starts (λ (start : Start). start.q))) in
+    not_same (get_or (started plan) i d.q) (get_or (started plan) j d.q) apart (first ∙ (same ∙ sym second))
+  where
+    not_same : (a b : ℕ) → nat_eq a b ≡ false → a ≡ b → ⊥
+    not_same a b apart same = absurd (grind (arith, nat_tests))

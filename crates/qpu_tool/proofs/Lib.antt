@@ -1,10 +1,1 @@
-pub mod FirstWords
-pub mod Digits
-pub mod ReadingLaws
-pub mod JobLaws
-pub mod CodeLemmas
-pub mod RecordLemmas
-pub mod ReportLaws
-pub mod StraightLemmas
-pub mod RunTexts
-pub mod AnswerLemmas
+

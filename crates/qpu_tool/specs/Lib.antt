@@ -1,9 +1,4 @@
-pub mod FirstForm
-pub mod Job
-pub mod Reading
-pub mod Plans
-pub mod Ended
-pub mod Opening
 pub mod Run
 pub mod Statuses
+pub mod Refusals
 pub mod Answers

@@ -1,10 +1,10 @@
 //! The command of a run without workers, from the words and the bytes of a job to the answer.
-ghost use Rattle.std.specs.Prelude.{◌≡◌, ◌<◌, ◌↔◌, ◌⊎◌, ℕ, List, map, length, IsTrue, string_bytes};
+ghost use Rattle.std.specs.Prelude.{◌≡◌, ◌<◌, ◌↔◌, ◌⊎◌, ℕ, List, Some, map, length, position, IsSome, IsTrue, string_bytes};
 ghost use Rattle.qpu_io.specs.Faults.{Rose};
-ghost use Rattle.qpu_tool.specs.Answers.{IsRun, IsNoJob, IsQuiet, NothingLeft, PrintsRun, AnswersTo, Gives, Judged, Outcome, usage, read_fault, too_long, not_built};
+ghost use Rattle.qpu_tool.specs.Refusals.{is_high};
+ghost use Rattle.qpu_tool.specs.Answers.{IsRun, IsOfText, IsOfRun, IsQuiet, NothingLeft, PrintsRun, IsRefusedJob, IsRefusedProgram, Answered, AnswersTo, Gives, Outcome, usage, read_fault, too_long};
 
-use crate::job::{JobFault, read_job};
-use crate::run::write_run;
+use crate::judging::judge;
 use crate::status::Status;
 use qpu_io::{ReadAllError, Sink, Source, read_all, write_all_of};
 use std::alloc::Global;
@@ -65,27 +65,6 @@ fn say_too_long<K: Sink>(sink: &mut K) -> Status
     }
 }
 
-/// Says that the input is no job of the first form.
-fn say_not_built<K: Sink>(sink: &mut K) -> Status
-    ensures { Gives not_built (K.shown sink.old) (K.shown sink.new) result }
-{
-    match write_all_of(sink, b"refused job NotBuilt\n") {
-        Ok(()) => Status::JobRefused,
-        Err(_) => Status::WriteFault,
-    }
-}
-
-/// Answers a whole input.
-fn judge<K: Sink>(alloc: Global, text: &[u8], sink: &mut K) -> Status
-    ensures { Judged text.now (K.shown sink.old) (K.shown sink.new) result }
-{
-    match read_job(alloc, text) {
-        Ok(job) => write_run(text, &job, sink),
-        Err(JobFault::NotBuilt) => say_not_built(sink),
-        Err(JobFault::Memory) => Status::NoMemory,
-    }
-}
-
 /// Carries out the words on the source's bytes.
 fn carried_out<S: Source, K: Sink>(
     alloc: Global,
@@ -107,8 +86,9 @@ fn carried_out<S: Source, K: Sink>(
 }
 
 /// Carries out a command that waits for nobody: today `run -w 0`, on a job of at most 8,388,608
-/// bytes. The answer is one of Done, Usage, JobRefused, ReadFault, WriteFault, NoMemory, TooLong;
-/// after the first write no memory is taken.
+/// bytes. It reads the whole job, runs it in the serial order until nothing can move, and writes its
+/// record and its report; or it writes the one line of the refusal that is due. The answer is any
+/// status but AsmRefused and RecordRefused; after the first write no memory is taken.
 pub fn plain<S: Source, K: Sink>(
     alloc: Global,
     words: &[String],
@@ -128,13 +108,16 @@ pub fn plain<S: Source, K: Sink>(
     ensures read_fault { result ≡ Status.ReadFault → Rose (S.shown source.old).faults (S.shown source.new).faults }
 
     // What is read and written.
-    ensures nothing_left { (result ≡ Status.Done) ⊎ (result ≡ Status.JobRefused) → NothingLeft (S.shown source.new) }
+    ensures nothing_left { IsOfText result → NothingLeft (S.shown source.new) }
     ensures no_memory { result ≡ Status.NoMemory → K.shown sink.new ≡ K.shown sink.old }
 
     // Each answer to the bytes has its cause, and where no fault is counted one of them comes.
     ensures too_long { (bytes : List ℕ) → (S.shown source.old).left ≡ Some bytes → result ≡ Status.TooLong → MOST_INPUT < length bytes }
-    ensures job_refused { (bytes : List ℕ) → (S.shown source.old).left ≡ Some bytes → result ≡ Status.JobRefused → IsNoJob bytes }
-    ensures done { (bytes : List ℕ) → (S.shown source.old).left ≡ Some bytes → result ≡ Status.Done → PrintsRun bytes (K.shown sink.old) (K.shown sink.new) }
+    ensures not_ascii { (bytes : List ℕ) → (S.shown source.old).left ≡ Some bytes → result ≡ Status.NotAscii → IsSome (position is_high bytes) }
+    ensures job_refused { (bytes : List ℕ) → (S.shown source.old).left ≡ Some bytes → result ≡ Status.JobRefused → IsRefusedJob bytes }
+    ensures hazard_refused { (bytes : List ℕ) → (S.shown source.old).left ≡ Some bytes → result ≡ Status.HazardRefused → IsRefusedProgram bytes }
+    ensures ran { (bytes : List ℕ) → (S.shown source.old).left ≡ Some bytes → IsOfRun result → PrintsRun bytes (K.shown sink.old) (K.shown sink.new) result }
+    ensures answered { (bytes : List ℕ) → (S.shown source.old).left ≡ Some bytes → IsOfText result → Answered bytes (K.shown sink.old) (K.shown sink.new) result }
     ensures complete { (bytes : List ℕ) → IsRun (map string_bytes words.now) → (S.shown source.old).left ≡ Some bytes
         → IsQuiet (S.shown source.old).faults (S.shown source.new).faults → IsQuiet (K.shown sink.old).faults (K.shown sink.new).faults
         → AnswersTo bytes (K.shown sink.old) (K.shown sink.new) result }

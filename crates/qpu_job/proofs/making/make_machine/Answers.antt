@@ -7,7 +7,7 @@ use Rattle.qpu_job.specs.Programs.{HaveCodes, codes_of}
 use Rattle.qpu_job.specs.Opening.{memory_of, opening_machine}
 use Rattle.qpu_job.proofs.CodeLemmas.{have_length, have_short}
 use Rattle.qpu_job.proofs.CheckLemmas.{length_codes}
-use Rattle.qpu_job.proofs.StartLemmas.{few_starts}
+use Rattle.qpu_job.proofs.StartLemmas.{few_starts, starts_differ}
 use Rattle.qpu_job.proofs.making.make_machine.Goals as goal
 
 pub check_programs-requires-clause-few : goal.check_programs-requires-clause-few
@@ -32,6 +32,10 @@ new-requires-clause-programs c =
     λ k d low.
     rw (c.starts_of.ensures, c.deref-4.ensures.value, long)
     ((c.requires.starts k d (rw (c.starts_of.ensures, c.deref-4.ensures.value) at low)).program)
+
+pub new-requires-clause-differ : goal.new-requires-clause-differ
+new-requires-clause-differ c =
+    rw (c.starts_of.ensures, c.deref-4.ensures.value) (starts_differ (plan_of c.args.job.now) c.requires)
 
 pub returns-clause-ok : goal.returns-clause-ok
 unfolding opening_machine memory_of

@@ -1,7 +1,0 @@
--- The value so far is of the digits before the index.
-use Rattle.std.proofs.Common.{◌≡◌, take}
-use Rattle.std.specs.Str.Parse.{digits_value}
-use Rattle.qpu_tool.proofs.job.line.value_of.Given as goal
-
-abbrev pub invariant-loop-b : goal.invariant-loop-b
-invariant-loop-b l = l.value ≡ digits_value l.radix (take l.b-index l.digits)
