@@ -61,7 +61,8 @@ impl Memory {
     /// The k-th group of eight words, from 0; the last group has the words that remain, and groups
     /// past it have none.
     pub fn group(&self, k: u32) -> &[u32]
-        ensures { result.now ≡ take GROUP (drop (GROUP * k) self.now) }
+        ensures group { result.now ≡ take GROUP (drop (GROUP * k) self.now) }
+        ensures most { length self.now ≤ 1048576 }
     {
         match self.words.get(k as usize * GROUP..) {
             Some(rest) => first_group(rest),

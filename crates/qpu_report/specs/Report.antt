@@ -127,9 +127,13 @@ started_text m q (Some p) = processor_text m q p
 abbrev pub group : ℕ → List ℕ → ℕ → List ℕ
 group n values k = take n (drop (n * k) values)
 
+-- the line of a row of the VPM
+abbrev pub vpm_line : List ℕ → ℕ → List ℕ
+vpm_line vpm r = row_line (codes "vpm ") r (group VPM_COLUMNS vpm r)
+
 -- the lines of the VPM's rows
 unfoldable pub vpm_text : List ℕ → List ℕ
-vpm_text vpm = flat_map (λ r. row_line (codes "vpm ") r (group VPM_COLUMNS vpm r)) (range_with_len 0 VPM_ROWS)
+vpm_text vpm = flat_map (vpm_line vpm) (range_with_len 0 VPM_ROWS)
 
 -- the line of a group of memory's words, with its byte address, where it isn't clear
 abbrev pub memory_line : ℕ → List ℕ → List ℕ
@@ -137,10 +141,13 @@ memory_line k values =
     if is_clear values then []
     else joined (codes "mem " ∷ hex8 (4 * GROUP * k) ∷ lanes_text values ∷ codes "\n" ∷ [])
 
+-- the line of the k-th group of memory
+abbrev pub group_line : List ℕ → ℕ → List ℕ
+group_line memory k = memory_line k (group GROUP memory k)
+
 -- the lines of memory's groups; the last has what remains
 unfoldable pub memory_text : List ℕ → List ℕ
-memory_text memory =
-    flat_map (λ k. memory_line k (group GROUP memory k)) (range_with_len 0 ((length memory + GROUP - 1) / GROUP))
+memory_text memory = flat_map (group_line memory) (range_with_len 0 ((length memory + GROUP - 1) / GROUP))
 
 -- the line of a semaphore, where its count is above 0
 abbrev pub semaphore_line : ℕ → ℕ → List ℕ

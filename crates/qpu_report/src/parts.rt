@@ -50,7 +50,7 @@ fn put_group<K: Sink>(k: u32, words: &[u32], sink: &mut K) -> Result<(), SinkFai
 pub(crate) fn put_memory<K: Sink>(memory: &Memory, sink: &mut K) -> Result<(), SinkFailed>
     ensures { Prints (K.shown sink.old) (K.shown sink.new) (memory_text memory.now) result }
 {
-    let groups = memory.len().div_ceil(GROUP as u32);
+    let groups = ((memory.len() as usize + GROUP - 1) / GROUP) as u32;
     for k in 0..groups {
         put_group(k, memory.group(k), sink)?;
     }

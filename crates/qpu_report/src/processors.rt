@@ -1,5 +1,5 @@
 //! The lines of the processors.
-ghost use Rattle.std.specs.Prelude.{◌≡◌, ◌∷◌, [], Some, codes, decimal, slice_index};
+ghost use Rattle.std.specs.Prelude.{◌≡◌, ◌∷◌, [], Some, codes, decimal, length, slice_index};
 ghost use Rattle.qpu_io.specs.Output.{Prints};
 ghost use Rattle.qpu_io.specs.Text.{joined, numbered};
 ghost use Rattle.qpu_word.specs.declared.state.Halt.TheVariants.{Going};
