@@ -10,7 +10,7 @@ use Rattle.qpu_hazard.specs.declared.checked.CheckFault.{CheckFault}
 use Rattle.qpu_job.specs.declared.fault.JobFault.{JobFault}
 use Rattle.qpu_job.specs.declared.fault.JobFault.TheVariants as fault
 use Rattle.qpu_job.specs.Plan.{Plan}
-use Rattle.qpu_job.specs.Reading.{job_of}
+use Rattle.qpu_job.specs.Reading.{job_of, IsReadFault}
 use Rattle.qpu_job.specs.Opening.{IsMakeFault}
 use Rattle.qpu_tool.specs.declared.status.Status.{Status}
 use Rattle.qpu_tool.specs.declared.status.Status.TheVariants.{Done, Usage, AsmRefused, JobRefused, HazardRefused, ReadFault, WriteFault, NoMemory, Stuck, RanOut, Faulted, RecordRefused, TooLong, NotAscii}
@@ -56,7 +56,7 @@ run_answer job s m = record { status = status_for (ending_of m); text = run_text
 -- line of the job; a program; or a run of the job that it is
 pub data AnswerTo (text : List ℕ) : Answer → Type 0 where
   high : (at : ℕ) → position is_high text ≡ Some at → AnswerTo text (not_ascii at)
-  no_job : (e : JobFault) → position is_high text ≡ None → job_of text ≡ Err e → e ≢ fault.Memory → AnswerTo text (refusal [] e)
+  no_job : (e : JobFault) → position is_high text ≡ None → job_of text ≡ Err e → IsReadFault e → e ≢ fault.Memory → AnswerTo text (refusal [] e)
   no_machine : (plan : Plan) (e : JobFault) → position is_high text ≡ None → job_of text ≡ Ok plan → IsMakeFault plan e → e ≢ fault.Memory
       → AnswerTo text (refusal (names_of plan) e)
   ran : (plan : Plan) (s : List Actor) (m : MachineState) → position is_high text ≡ None → job_of text ≡ Ok plan → FaithfulRun plan s m

@@ -106,11 +106,7 @@ fn put_hazard_line<K: Sink>(
 
 /// Writes the line of what the checker refuses; of want of memory there is none.
 #[tactic(auto, using(qpu_io::proofs::Outputs::appended_none))]
-fn put_check_line<K: Sink>(
-    name: &[u8],
-    fault: CheckFault,
-    sink: &mut K,
-) -> Result<(), SinkFailed>
+fn put_check_line<K: Sink>(name: &[u8], fault: CheckFault, sink: &mut K) -> Result<(), SinkFailed>
     ensures { Prints (K.shown sink.old) (K.shown sink.new) (check_line name.now fault) result }
 {
     match fault {
@@ -124,10 +120,11 @@ fn put_check_line<K: Sink>(
 fn name_of(programs: &[ProgramText], program: u32) -> &[u8]
     ensures { result.now ≡ name_at (map (λ (p : Program). p.name) (programs_of programs.now)) program }
 {
-    match programs.get(program as usize) {
-        Some(program) => program.name.as_bytes(),
-        None => b"",
+    let at = program as usize;
+    if at >= programs.len() {
+        return b"";
     }
+    programs[at].name.as_bytes()
 }
 
 /// Writes the line of a job's fault; of want of memory there is none.
@@ -167,11 +164,7 @@ fn fault_status(fault: JobFault) -> Status
 }
 
 /// Says why a job with these programs is refused; want of memory is no refusal.
-pub(crate) fn say_fault<K: Sink>(
-    programs: &[ProgramText],
-    fault: JobFault,
-    sink: &mut K,
-) -> Status
+pub(crate) fn say_fault<K: Sink>(programs: &[ProgramText], fault: JobFault, sink: &mut K) -> Status
     requires { fault ≢ JobFault.Memory }
     ensures { Gives (refusal (map (λ (p : Program). p.name) (programs_of programs.now)) fault) (K.shown sink.old) (K.shown sink.new) result }
 {
