@@ -1,4 +1,10 @@
-//! The machine of actors: processors, DMA moves and look-up moves, one step at a time.
+//! The machine of actors: processors, DMA moves and look-up moves, one step at a time, or run in the
+//! serial order.
+//!
+//! A step is what the definitions give, a run is the one serial schedule, and its journal spells it.
+//! By its laws each trace is a path of its program that breaks no rule, a schedule is bounded by the
+//! limit, and in a final machine only the mutex and semaphores are awaited. It says nothing of orders
+//! that workers choose.
 #![tactic(auto)]
 
 mod actor;

@@ -160,3 +160,6 @@ impl Machine {
         }
     }
 }
+
+#[cfg(test)]
+mod tests;
