@@ -1,0 +1,13 @@
+//! Expansion of assembly text: the second stage of the assembler.
+//!
+//! The tokens of a text are taken line by line. Macros, repeats, names that are set, expressions and
+//! labels are judged, counted and taken out; what is left are plain lines, each of which gives one
+//! word, and the labels with the words behind them. What a plain line means is not told here.
+#![tactic(auto)]
+
+mod expression;
+mod laws;
+mod operator;
+mod place;
+
+pub use laws::reads_trees;
