@@ -1,1 +1,3 @@
 pub mod TreeLaw
+pub mod ReadingLemmas
+pub mod OperandLemmas

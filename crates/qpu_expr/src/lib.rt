@@ -7,7 +7,11 @@
 
 mod expression;
 mod laws;
+mod operand;
 mod operator;
 mod place;
+mod register;
+mod setting;
+mod symbol;
 
 pub use laws::reads_trees;
