@@ -5,3 +5,5 @@ pub mod Symbols
 pub mod Registers
 pub mod Settings
 pub mod Operands
+pub mod LineTokens
+pub mod Lines

@@ -7,6 +7,7 @@
 
 mod expression;
 mod laws;
+mod line;
 mod operand;
 mod operator;
 mod place;

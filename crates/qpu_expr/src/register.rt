@@ -24,7 +24,7 @@ fn is_numbered(word: &[u8]) -> bool
     }
 }
 
-fn is_text(word: &[u8], text: &[u8]) -> bool
+pub(crate) fn is_text(word: &[u8], text: &[u8]) -> bool
     ensures { result ≡ is_text word.now text.now }
 {
     word == text
