@@ -7,3 +7,5 @@ pub mod Settings
 pub mod Operands
 pub mod LineTokens
 pub mod Lines
+pub mod MacroTokens
+pub mod Macros

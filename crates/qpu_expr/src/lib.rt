@@ -5,9 +5,11 @@
 //! word, and the labels with the words behind them. What a plain line means is not told here.
 #![tactic(auto)]
 
+mod expanded;
 mod expression;
 mod laws;
 mod line;
+mod macros;
 mod operand;
 mod operator;
 mod place;
@@ -15,4 +17,5 @@ mod register;
 mod setting;
 mod symbol;
 
+pub use expanded::{Expanded, LabelAt, PlainLine};
 pub use laws::reads_trees;
