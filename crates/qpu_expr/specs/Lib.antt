@@ -9,3 +9,7 @@ pub mod LineTokens
 pub mod Lines
 pub mod MacroTokens
 pub mod Macros
+pub mod StageParts
+pub mod Stage
+pub mod Room
+pub mod Deeds

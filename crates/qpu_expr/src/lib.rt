@@ -5,9 +5,11 @@
 //! word, and the labels with the words behind them. What a plain line means is not told here.
 #![tactic(auto)]
 
+mod deed;
 mod expanded;
 mod expression;
 mod laws;
+mod limits;
 mod line;
 mod macros;
 mod operand;
@@ -15,6 +17,8 @@ mod operator;
 mod place;
 mod register;
 mod setting;
+mod state;
+mod stop;
 mod symbol;
 
 pub use expanded::{Expanded, LabelAt, PlainLine};
