@@ -1,3 +1,4 @@
 pub mod TreeLaw
 pub mod ReadingLemmas
 pub mod OperandLemmas
+pub mod RoomLemmas

@@ -197,16 +197,23 @@ deed_by text s deepest end line behind (head.Closes pair) = stray_deed end line
 deed_by text s deepest end line behind head.Other = left_deed end line
 deed_by text s deepest end line behind head.Instruction = text_deed text s deepest end line
 
+infixl 10 ◌or◌
+abbrev pub ◌or◌ : Option AsmFault → Option AsmFault → Option AsmFault
+a or b = option_or a b
+
+abbrev pub fault_in : AsmKind → Option Place → Option AsmFault
+fault_in kind place = option_map (fault_at kind) place
+
 -- the fault of a line: the least kind, and in it the leftmost place
 abbrev pub least_fault : Option Place → Option Place → Findings → Option AsmFault
 least_fault label long f =
-    option_or (option_map (fault_at kind.UnknownName) f.unknown)
-    (option_or (option_map (fault_at kind.Twice) (option_or label f.twice))
-    (option_or (option_map (fault_at kind.TooDeep) f.deep)
-    (option_or (option_map (fault_at kind.TooLong) long)
-    (option_or (option_map (fault_at kind.DivideByZero) f.zero)
-    (option_or (option_map (fault_at kind.Shape) f.shape)
-    (option_map (fault_at kind.Range) f.range))))))
+    fault_in kind.UnknownName f.unknown
+    or fault_in kind.Twice (option_or label f.twice)
+    or fault_in kind.TooDeep f.deep
+    or fault_in kind.TooLong long
+    or fault_in kind.DivideByZero f.zero
+    or fault_in kind.Shape f.shape
+    or fault_in kind.Range f.range
 
 -- a line by itself: its fault, or what is run behind it and what it has led to
 unfoldable pub done_by : List ℕ → LineTokens → Deed → Stage → Result (Act × Stage) AsmFault

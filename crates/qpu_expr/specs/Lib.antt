@@ -13,3 +13,4 @@ pub mod StageParts
 pub mod Stage
 pub mod Room
 pub mod Deeds
+pub mod Leads

@@ -1,9 +1,10 @@
 //! What one line does by itself.
-ghost use Rattle.std.specs.Prelude.{◌≡◌, ◌++◌, ◌∷◌, [], length, take, drop, IfOk, OnOk, Some, None, Ok, Err, is_some, unwrap_or};
+ghost use Rattle.std.specs.Prelude.{◌≡◌, ◌++◌, ◌∷◌, [], length, take, drop, IfOk, OnOk, Some, None, Ok, Err, is_some, unwrap_or, option_map, option_copied};
+ghost use Rattle.qpu_expr.specs.Leads.{Led};
 ghost use Rattle.qpu_token.specs.declared.token.Token.{Token};
 ghost use Rattle.qpu_token.specs.Tokens.{text_of};
 ghost use Rattle.qpu_expr.specs.Lines.{behind_label, head_of};
-ghost use Rattle.qpu_expr.specs.Deeds.{no_findings, place_in, when, left_deed, is_whole, value_in, zero_in, misshapen, set_to, set_deed, repeat_by, repeat_deed, names_twice, defined, macro_by, macro_deed, stray_deed, call_deed, worked_deed, instruction_deed, called, text_deed, deed_by, least_fault, done_by, line_does, closing_deed, closes};
+ghost use Rattle.qpu_expr.specs.Deeds.{no_findings, place_in, when, left_deed, is_whole, value_in, zero_in, misshapen, set_to, set_deed, repeat_by, repeat_deed, names_twice, defined, macro_by, macro_deed, stray_deed, call_deed, worked_deed, instruction_deed, called, text_deed, deed_by, fault_in, least_fault, done_by, line_does, closing_deed, closes};
 
 use crate::expanded::PlainLine;
 use crate::expression::Outcome;
@@ -278,4 +279,330 @@ fn repeat_deed(
     let e = read_expression(alloc, text, sets, count)?;
     let body = body_length(Pair::Repeat, text, behind);
     Ok(repeat_by(deepest, place_in(end, line), place_in(end, count), e, body))
+}
+
+/// The place of the macro's name where it is there already, or of the first parameter that is.
+fn names_twice(text: &[u8], macros: &[Macro], names: &[Token]) -> Option<Place>
+    ensures { result ≡ names_twice text.now macros.now names.now }
+{
+    match names {
+        [] => None,
+        [name, parameters @ ..] => {
+            let there = macro_of(text, macros, text_of(text, *name)).is_some();
+            when(there, place_of(*name)).or(repeated(text, parameters))
+        }
+    }
+}
+
+/// A copy of a line.
+fn copy_line(alloc: Global, line: &Line) -> Result<Line, AllocError>
+    ensures { IfOk result (λ copy. copy ≡ line.now) }
+{
+    let tokens = Vec::from_slice(alloc, &line.tokens)?;
+    Ok(Line {
+        tokens,
+        end: line.end,
+    })
+}
+
+/// A copy of lines.
+fn copy_lines(alloc: Global, lines: &[Line]) -> Result<Vec<Line>, AllocError>
+    ensures { IfOk result (λ copy. copy.items ≡ lines.now) }
+{
+    let mut copy = Vec::new(alloc);
+    for line in lines {
+        copy.push(copy_line(alloc, line)?)?;
+    }
+    Ok(copy)
+}
+
+/// The first of lines, so many as there are.
+pub(crate) fn front(lines: &[Line], most: usize) -> &[Line]
+    ensures { result.now ≡ take most lines.now }
+{
+    &lines[..most.min(lines.len())]
+}
+
+/// The macro of a heading.
+fn defined(alloc: Global, names: &[Token], body: &[Line]) -> Result<Change, AllocError>
+    ensures { IfOk result (λ change. change ≡ defined names.now body.now) }
+{
+    match names {
+        [] => Ok(Change::Nothing),
+        [name, parameters @ ..] => {
+            let parameters = Vec::from_slice(alloc, parameters)?;
+            let body = copy_lines(alloc, body)?;
+            Ok(Change::Defines(Macro {
+                name: *name,
+                parameters,
+                body,
+            }))
+        }
+    }
+}
+
+/// The faults of a heading and of the length of its body.
+fn macro_by(dot: Place, fault: Option<Place>, twice: Option<Place>, body: Option<usize>) -> Findings
+    ensures { result ≡ macro_by dot fault twice body }
+{
+    let shape = if body.is_none() { Some(dot) } else { fault };
+    let twice = if fault.is_some() { None } else { twice };
+    Findings {
+        twice,
+        shape,
+        ..NO_FINDINGS
+    }
+}
+
+/// What a line with `.macro` does.
+#[tactic(auto, unfolding(crate::specs::Deeds::macro_deed))]
+fn macro_deed(
+    alloc: Global,
+    text: &[u8],
+    macros: &[Macro],
+    end: Token,
+    line: &[Token],
+    behind: &[Line],
+) -> Result<Deed, AllocError>
+    ensures { IfOk result (λ deed. deed ≡ macro_deed text.now macros.now end line.now behind.now) }
+{
+    let heading = names_of(alloc, text, behind_word(line))?;
+    let body = body_length(Pair::Macro, text, behind);
+    let change = defined(alloc, heading.names(), front(behind, body.unwrap_or(0)))?;
+    let twice = names_twice(text, macros, heading.names());
+    Ok(Deed {
+        findings: macro_by(place_in(end, line), heading.fault(end), twice, body),
+        change,
+        act: Act::Passes {
+            lines: body.unwrap_or(0),
+        },
+    })
+}
+
+/// What a line does that closes nothing.
+fn stray_deed(end: Token, line: &[Token]) -> Deed
+    ensures { result ≡ stray_deed end line.now }
+{
+    Deed {
+        findings: Findings {
+            shape: Some(place_in(end, line)),
+            ..NO_FINDINGS
+        },
+        change: Change::Nothing,
+        act: Act::Nothing,
+    }
+}
+
+/// The tokens behind the first.
+fn behind_first(line: &[Token]) -> &[Token]
+    ensures { result.now ≡ drop 1 line.now }
+{
+    match line {
+        [_, rest @ ..] => rest,
+        [] => &[],
+    }
+}
+
+/// What the call of a macro does.
+#[tactic(auto, unfolding(crate::specs::Deeds::call_deed))]
+fn call_deed(
+    alloc: Global,
+    text: &[u8],
+    deepest: bool,
+    end: Token,
+    line: &[Token],
+    m: &Macro,
+) -> Result<Deed, AllocError>
+    ensures { IfOk result (λ deed. deed ≡ call_deed text.now deepest end line.now m.now) }
+{
+    let call = call_of(alloc, text, end, behind_first(line))?;
+    let other = call.arguments.len() != m.parameters.len();
+    let lines = body_replaced(alloc, text, &m.parameters, &call.arguments, &m.body)?;
+    Ok(Deed {
+        findings: Findings {
+            deep: when(deepest, place_in(end, line)),
+            shape: call.fault.or(when(other, place_in(end, line))),
+            ..NO_FINDINGS
+        },
+        change: Change::Nothing,
+        act: Act::Calls(Body { lines }),
+    })
+}
+
+/// What an instruction does that is worked out.
+fn worked_deed(end: Token, work: Work) -> Result<Deed, AllocError>
+    ensures { IfOk result (λ deed. deed ≡ worked_deed end work) }
+{
+    let mut tokens = work.tokens;
+    tokens.push(end)?;
+    Ok(Deed {
+        findings: Findings {
+            unknown: work.unknown,
+            zero: work.zero,
+            ..NO_FINDINGS
+        },
+        change: Change::Leaves(PlainLine { tokens }),
+        act: Act::Nothing,
+    })
+}
+
+/// What an instruction does.
+#[tactic(auto, unfolding(crate::specs::Deeds::instruction_deed))]
+fn instruction_deed(
+    alloc: Global,
+    text: &[u8],
+    sets: &[Setting],
+    end: Token,
+    line: &[Token],
+) -> Result<Deed, AllocError>
+    ensures { IfOk result (λ deed. deed ≡ instruction_deed text.now sets.now end line.now) }
+{
+    let work = instruction(alloc, text, sets, line)?;
+    worked_deed(end, work)
+}
+
+/// The macro that a line calls.
+fn called<'a>(text: &[u8], macros: &'a [Macro], line: &[Token]) -> Option<&'a Macro>
+    ensures { option_copied result ≡ called text.now macros.now line.now }
+{
+    match line {
+        [first, ..] if is_name(text, *first) => macro_of(text, macros, text_of(text, *first)),
+        _ => None,
+    }
+}
+
+/// What an instruction or a call does.
+#[tactic(auto, unfolding(crate::specs::Deeds::text_deed))]
+fn text_deed(
+    alloc: Global,
+    text: &[u8],
+    state: &State,
+    deepest: bool,
+    end: Token,
+    line: &[Token],
+) -> Result<Deed, AllocError>
+    ensures { IfOk result (λ deed. deed ≡ text_deed text.now state.now deepest end line.now) }
+{
+    match called(text, state.macros(), line) {
+        Some(m) => call_deed(alloc, text, deepest, end, line, m),
+        None => instruction_deed(alloc, text, state.sets(), end, line),
+    }
+}
+
+/// What a line does, by the tokens behind its label.
+fn deed_of(
+    alloc: Global,
+    text: &[u8],
+    state: &State,
+    deepest: bool,
+    end: Token,
+    line: &[Token],
+    behind: &[Line],
+) -> Result<Deed, AllocError>
+    ensures { IfOk result (λ deed. deed ≡ deed_by text.now state.now deepest end line.now behind.now (head_of text.now line.now)) }
+{
+    match head_of(text, line) {
+        Head::Nothing => Ok(Deed {
+            findings: NO_FINDINGS,
+            change: Change::Nothing,
+            act: Act::Nothing,
+        }),
+        Head::Set => set_deed(alloc, text, state.sets(), end, line),
+        Head::Opens(Pair::Repeat) => repeat_deed(
+            alloc,
+            text,
+            state.sets(),
+            deepest,
+            end,
+            line,
+            behind,
+        ),
+        Head::Opens(Pair::Macro) => macro_deed(alloc, text, state.macros(), end, line, behind),
+        Head::Closes(_) => Ok(stray_deed(end, line)),
+        Head::Other => left_deed(alloc, end, line),
+        Head::Instruction => text_deed(alloc, text, state, deepest, end, line),
+    }
+}
+
+/// A fault at a place, where there is one.
+fn fault_in(kind: AsmKind, place: Option<Place>) -> Option<AsmFault>
+    ensures { result ≡ fault_in kind place }
+{
+    match place {
+        Some(place) => Some(fault_at(kind, place)),
+        None => None,
+    }
+}
+
+/// The fault of a line.
+fn least_fault(label: Option<Place>, long: Option<Place>, f: Findings) -> Option<AsmFault>
+    ensures { result ≡ least_fault label long f }
+{
+    fault_in(AsmKind::UnknownName, f.unknown)
+        .or(fault_in(AsmKind::Twice, label.or(f.twice)))
+        .or(fault_in(AsmKind::TooDeep, f.deep))
+        .or(fault_in(AsmKind::TooLong, long))
+        .or(fault_in(AsmKind::DivideByZero, f.zero))
+        .or(fault_in(AsmKind::Shape, f.shape))
+        .or(fault_in(AsmKind::Range, f.range))
+}
+
+/// Does what a line does, unless it has a fault.
+#[tactic(auto, unfolding(crate::specs::Deeds::done_by))]
+fn do_deed(text: &[u8], line: &Line, deed: Deed, state: &mut State) -> Result<Act, Stop>
+    ensures { Led (done_by text.now line.now deed state.old) state.new result }
+{
+    let label = label_of(text, &line.tokens);
+    let long = state.too_long(line, deed.change.leaves());
+    if let Some(fault) = least_fault(state.label_twice(text, label), long, deed.findings) {
+        return Err(Stop::Fault(fault));
+    }
+    state.count(line);
+    state.put_label(label)?;
+    state.change(deed.change)?;
+    Ok(deed.act)
+}
+
+/// Does what a line does by itself.
+#[tactic(auto, unfolding(crate::specs::Deeds::line_does))]
+pub(crate) fn take_line(
+    alloc: Global,
+    text: &[u8],
+    deepest: bool,
+    line: &Line,
+    behind: &[Line],
+    state: &mut State,
+) -> Result<Act, Stop>
+    ensures { Led (line_does text.now deepest line.now behind.now state.old) state.new result }
+{
+    let tokens = behind_label(text, &line.tokens);
+    let deed = deed_of(alloc, text, state, deepest, line.end, tokens, behind)?;
+    do_deed(text, line, deed, state)
+}
+
+/// The faults of the line that closes a body.
+fn closing_deed(line: &[Token]) -> Deed
+    ensures { result ≡ closing_deed line.now }
+{
+    let shape = match behind_word(line) {
+        [token, ..] => Some(place_of(*token)),
+        [] => None,
+    };
+    Deed {
+        findings: Findings {
+            shape,
+            ..NO_FINDINGS
+        },
+        change: Change::Nothing,
+        act: Act::Nothing,
+    }
+}
+
+/// Reaches the line that closes a body.
+#[tactic(auto, unfolding(crate::specs::Deeds::closes))]
+pub(crate) fn close_line(text: &[u8], line: &Line, state: &mut State) -> Result<Act, Stop>
+    ensures { Led (closes text.now line.now state.old) state.new result }
+{
+    let deed = closing_deed(behind_label(text, &line.tokens));
+    do_deed(text, line, deed, state)
 }

@@ -178,9 +178,12 @@ fn operand_of(
 /// Tokens that are worked out, and the leftmost faults among them.
 #[derive(Drop)]
 pub(crate) struct Work {
-    tokens: Vec<Token>,
-    unknown: Option<Place>,
-    zero: Option<Place>,
+    /// The tokens.
+    pub(crate) tokens: Vec<Token>,
+    /// The place of a fault by a name that isn't set.
+    pub(crate) unknown: Option<Place>,
+    /// The place of a division by 0.
+    pub(crate) zero: Option<Place>,
 }
 
 impl Model for Work {
