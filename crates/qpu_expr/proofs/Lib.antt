@@ -2,3 +2,4 @@ pub mod TreeLaw
 pub mod ReadingLemmas
 pub mod OperandLemmas
 pub mod RoomLemmas
+pub mod RunLemmas

@@ -14,3 +14,5 @@ pub mod Stage
 pub mod Room
 pub mod Deeds
 pub mod Leads
+pub mod Expansion
+pub mod Nesting

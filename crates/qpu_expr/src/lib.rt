@@ -7,6 +7,7 @@
 
 mod deed;
 mod expanded;
+mod expansion;
 mod expression;
 mod laws;
 mod limits;
