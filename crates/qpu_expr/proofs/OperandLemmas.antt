@@ -1,5 +1,5 @@
 -- Suffixes at the front of tokens.
-use Rattle.std.proofs.Common.{◌≡◌, ℕ, ◌+◌, ◌<◌, List, [], ◌∷◌, length, refl, arith}
+use Rattle.std.proofs.Common.{◌≡◌, ℕ, ◌<◌, List, [], ◌∷◌, length, refl, arith}
 use Rattle.qpu_token.specs.declared.token.Token.{Token}
 use Rattle.qpu_expr.specs.Operands.{suffixes}
 

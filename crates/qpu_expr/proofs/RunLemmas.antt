@@ -11,7 +11,7 @@ use Rattle.qpu_expr.specs.LineTokens.{LineTokens}
 use Rattle.qpu_expr.specs.StageParts.{Stage}
 use Rattle.qpu_expr.specs.Stage.{turn_counted}
 use Rattle.qpu_expr.specs.Deeds.{line_does}
-use Rattle.qpu_expr.specs.Expansion.{Outcome, then, turns, performed, taken, lines_run, nothing_run, run_within}
+use Rattle.qpu_expr.specs.Expansion.{Outcome, then, turns, performed, taken, lines_run, run_within}
 use Rattle.qpu_expr.specs.Nesting.{is_deepest, below}
 
 -- lines that are done already are passed

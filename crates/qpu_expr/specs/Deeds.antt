@@ -1,5 +1,5 @@
 -- What one line does by itself: its faults, what it changes, and what is run behind it. This project's own.
-use Rattle.std.specs.Prelude.{ℕ, ◌+◌, ◌==◌, ◌&&◌, Bool, true, false, nat_lt, List, [], ◌∷◌, ◌++◌, length, take, drop, Option, Some, None, option_map, is_some, unwrap_or, Result, Ok, Err, if◌then◌else◌}
+use Rattle.std.specs.Prelude.{ℕ, ◌==◌, ◌&&◌, Bool, true, false, nat_lt, List, [], ◌∷◌, ◌++◌, length, take, drop, Option, Some, None, option_map, is_some, unwrap_or, Result, Ok, Err, if◌then◌else◌}
 use Rattle.std.specs.Option.{option_or}
 use Rattle.qpu_token.specs.declared.token.Token.{Token}
 use Rattle.qpu_token.specs.declared.fault.AsmFault.{AsmFault}
@@ -27,7 +27,7 @@ use Rattle.qpu_expr.specs.Operands.{is_name, Worked, instruction}
 use Rattle.qpu_expr.specs.LineTokens.{LineTokens}
 use Rattle.qpu_expr.specs.Lines.{label_of, behind_label, head_of, body_length}
 use Rattle.qpu_expr.specs.MacroTokens.{MacroTokens}
-use Rattle.qpu_expr.specs.Macros.{is_comma, Names, names_of, heading_fault, repeated_in, macro_of, arguments_of, argument_fault, body_replaced}
+use Rattle.qpu_expr.specs.Macros.{is_comma, names_of, heading_fault, repeated_in, macro_of, arguments_of, argument_fault, body_replaced}
 use Rattle.qpu_expr.specs.StageParts.{Stage}
 use Rattle.qpu_expr.specs.Stage.{too_long, counted, labelled, leaves, changed, label_twice}
 

@@ -1,6 +1,6 @@
 -- The expansion of a text: its lines are done one after another, and behind a line what it asks for.
 -- This project's own.
-use Rattle.std.specs.Prelude.{◌≡◌, ℕ, zero, suc, ◌+◌, Bool, true, false, List, [], ◌∷◌, take, slice_get, Option, Some, None, Result, Ok, Err}
+use Rattle.std.specs.Prelude.{ℕ, zero, suc, ◌+◌, Bool, true, false, List, [], ◌∷◌, take, slice_get, Option, Some, None, Result, Ok, Err}
 use Rattle.qpu_token.specs.declared.token.Token.{Token}
 use Rattle.qpu_token.specs.declared.fault.AsmFault.{AsmFault}
 use Rattle.qpu_expr.specs.declared.limits.TheConstants.{MOST_DEPTH}

@@ -16,3 +16,4 @@ pub mod Deeds
 pub mod Leads
 pub mod Expansion
 pub mod Nesting
+pub mod Answer

@@ -1,5 +1,5 @@
 -- The lines of a text, and what they begin with. This project's own.
-use Rattle.std.specs.Prelude.{ℕ, ◌+◌, ◌-◌, ◌^◌, ◌<◌, ◌==◌, ◌&&◌, Bool, true, false, List, [], ◌∷◌, ◌++◌, drop, fold, length, codes, Option, Some, None, option_map, is_some, if◌then◌else◌}
+use Rattle.std.specs.Prelude.{ℕ, ◌+◌, ◌-◌, ◌^◌, min, ◌==◌, ◌&&◌, Bool, true, false, List, [], ◌∷◌, ◌++◌, drop, fold, codes, Option, Some, None, option_map, is_some, if◌then◌else◌}
 use Rattle.qpu_token.specs.declared.token.Token.{Token}
 use Rattle.qpu_token.specs.Tokens.{text_of}
 use Rattle.qpu_expr.specs.declared.symbol.Sign.TheVariants as sign
@@ -18,14 +18,14 @@ use Rattle.qpu_expr.specs.LineTokens.{LineTokens}
 
 -- lines
 
--- the place of a line's end is the column behind its last token
+-- the column behind a token; columns end at 2^32 - 1, which no text of at most 2^28 bytes reaches
+abbrev pub column_behind : Token → ℕ
+column_behind token = min (token.column + (token.to - token.from)) (2 ^ 32 - 1)
+
+-- the place of a line's end is directly behind its last token
 abbrev pub moved_to : Token → Option Token → Token
 moved_to end None = end
-moved_to end (Some last) = record end { line = last.line; column = last.column + (last.to - last.from) }
-
--- the column behind a token can be told
-abbrev pub IsNarrow : Token → Type 0
-IsNarrow token = token.column + (token.to - token.from) < 2 ^ 32
+moved_to end (Some last) = record end { line = last.line; column = column_behind last }
 
 -- lines that are read, and the tokens of the next one, with its last
 pub record Lining : Type 0 where

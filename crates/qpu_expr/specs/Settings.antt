@@ -1,9 +1,8 @@
 -- Names that are set, and expressions over them. This project's own.
-use Rattle.std.specs.Prelude.{ℕ, ◌%◌, ◌^◌, Bool, true, false, not, List, map, Option, Some, None, option_map, is_some, unwrap_or}
+use Rattle.std.specs.Prelude.{ℕ, ◌%◌, ◌^◌, Bool, false, not, List, map, Option, option_map, is_some, unwrap_or}
 use Rattle.std.specs.List.{find, list_any}
 use Rattle.qpu_token.specs.declared.token.Token.{Token}
 use Rattle.qpu_token.specs.Tokens.{text_of}
-use Rattle.qpu_expr.specs.declared.symbol.Sign.{Sign}
 use Rattle.qpu_expr.specs.declared.symbol.Sign.TheVariants as sign
 use Rattle.qpu_expr.specs.declared.symbol.Symbol.{Symbol}
 use Rattle.qpu_expr.specs.declared.symbol.Symbol.TheVariants as symbol

@@ -1,6 +1,6 @@
 -- What the lines of a text have led to: lines that are left, labels, sets, macros, and counts. This
 -- project's own.
-use Rattle.std.specs.Prelude.{◌≡◌, ℕ, ◌+◌, ◌-◌, ◌^◌, ◌<◌, ◌&&◌, Bool, true, false, nat_eq, nat_le, List, [], ◌∷◌, ◌++◌, length, slice_get, slice_range, Option, Some, None, option_map, Result, Ok, Err, if◌then◌else◌}
+use Rattle.std.specs.Prelude.{ℕ, ◌+◌, ◌-◌, ◌&&◌, Bool, true, false, nat_eq, nat_le, List, [], ◌∷◌, ◌++◌, length, slice_get, slice_range, Option, Some, None, option_map, Result, Ok, Err, if◌then◌else◌}
 use Rattle.std.specs.List.{list_any}
 use Rattle.std.specs.Cmp.Lexicographic.{pointwise}
 use Rattle.qpu_token.specs.declared.token.Token.{Token}
@@ -10,12 +10,10 @@ use Rattle.qpu_token.specs.Tokens.{text_of}
 use Rattle.qpu_expr.specs.declared.limits.TheConstants.{MOST_LINES, MOST_TOKENS, MOST_WORDS}
 use Rattle.qpu_expr.specs.declared.place.Place.{Place}
 use Rattle.qpu_expr.specs.declared.expanded.LabelAt.{LabelAt}
-use Rattle.qpu_expr.specs.declared.setting.Setting.{Setting}
 use Rattle.qpu_expr.specs.declared.state.Change.{Change}
 use Rattle.qpu_expr.specs.declared.state.Change.TheVariants as change
 use Rattle.qpu_expr.specs.Symbols.{place_of, fault_at}
 use Rattle.qpu_expr.specs.LineTokens.{LineTokens}
-use Rattle.qpu_expr.specs.MacroTokens.{MacroTokens}
 use Rattle.qpu_expr.specs.StageParts.{Stage}
 
 -- before the first line

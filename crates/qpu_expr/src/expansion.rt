@@ -139,7 +139,7 @@ fn perform(
 
 /// Runs lines in which so many macros and repeats may stand one in another.
 #[cycle(running)]
-fn run_lines(
+pub(crate) fn run_lines(
     alloc: Global,
     text: &[u8],
     lines: &[Line],

@@ -21,6 +21,8 @@ mod setting;
 mod state;
 mod stop;
 mod symbol;
+mod whole;
 
 pub use expanded::{Expanded, LabelAt, PlainLine};
 pub use laws::reads_trees;
+pub use whole::expand;

@@ -1,6 +1,6 @@
 //! The lines of a text, and what they begin with.
 ghost use Rattle.std.specs.Prelude.{◌≡◌, ◌≤◌, ◌++◌, ◌∷◌, [], length, fold, drop, IfOk, OnOk, option_map, MatchOption, IfSome, All, None, ◌+◌, ◌-◌, ◌^◌, ◌<◌};
-ghost use Rattle.qpu_expr.specs.Lines.{moved_to, IsNarrow, Lining, no_line, ends, lined, lines_of, colons, is_colon, label_of, behind_label, word_head, directive, head_of, nesting_of, nested, body_length};
+ghost use Rattle.qpu_expr.specs.Lines.{column_behind, moved_to, Lining, no_line, ends, lined, lines_of, colons, is_colon, label_of, behind_label, word_head, directive, head_of, nesting_of, nested, body_length};
 
 use crate::operand::{is_dot, is_name};
 use crate::register::is_text;
@@ -64,16 +64,24 @@ pub(crate) enum Nesting {
     Stays,
 }
 
+/// The column behind a token.
+fn column_behind(token: Token) -> u32
+    ensures { result ≡ column_behind token }
+{
+    let length = token.to.saturating_sub(token.from);
+    let column = length.saturating_add(token.column as usize);
+    column.min(u32::MAX as usize) as u32
+}
+
 /// The end of a line with the place behind the line's last token.
 fn moved_to(end: Token, last: Option<Token>) -> Token
-    requires { IfSome last IsNarrow }
     ensures { result ≡ moved_to end last }
 {
     match last {
         None => end,
         Some(last) => Token {
             line: last.line,
-            column: last.column + last.to.saturating_sub(last.from) as u32,
+            column: column_behind(last),
             ..end
         },
     }
@@ -109,7 +117,6 @@ impl Liner {
 
     /// Ends a line.
     fn end(&mut self, alloc: Global, end: Token) -> Result<(), AllocError>
-        requires { IfSome self.old.last IsNarrow }
         ensures { OnOk result (self.new ≡ record { lines = self.old.lines ++ record { tokens = self.old.tokens; end = moved_to end self.old.last } ∷ []; tokens = []; last = None }) }
     {
         let tokens = mem::replace(&mut self.tokens, Vec::new(alloc));
@@ -121,7 +128,6 @@ impl Liner {
 
     /// Reads one token more.
     fn read(&mut self, alloc: Global, text: &[u8], token: Token) -> Result<(), AllocError>
-        requires { IfSome self.old.last IsNarrow }
         ensures { OnOk result (self.new ≡ lined text.now self.old token) }
     {
         if matches!(symbol_of(text, token), Symbol::LineEnd) {
@@ -140,7 +146,6 @@ pub(crate) fn lines_of(
     text: &[u8],
     tokens: &[Token],
 ) -> Result<Vec<Line>, AllocError>
-    requires { All IsNarrow tokens.now }
     ensures { IfOk result (λ lines. lines.items ≡ lines_of text.now tokens.now) }
 {
     let mut liner = Liner::new(alloc);

@@ -1,4 +1,4 @@
-use qpu_token::AsmFault;
+use qpu_token::{AsmFault, AsmKind};
 use std::alloc::AllocError;
 
 /// Why an expansion stops early.
@@ -18,5 +18,27 @@ impl From<AllocError> for Stop {
 
     fn from(_: AllocError) -> Stop {
         Stop::Memory
+    }
+}
+
+/// Want of memory, which has no place.
+pub(crate) const NO_MEMORY: AsmFault = AsmFault {
+    kind: AsmKind::Memory,
+    line: 0,
+    column: 0,
+};
+
+impl Stop {
+    ghost use Rattle.std.specs.Prelude.{◌≡◌};
+    ghost use Rattle.qpu_expr.specs.Answer.{answered};
+
+    /// What is answered.
+    pub(crate) fn fault(self) -> AsmFault
+        ensures { result ≡ answered self }
+    {
+        match self {
+            Stop::Fault(fault) => fault,
+            Stop::Memory => NO_MEMORY,
+        }
     }
 }

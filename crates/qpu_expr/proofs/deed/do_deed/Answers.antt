@@ -1,7 +1,6 @@
-use Rattle.std.proofs.Common.{◌≡◌, ◌<◌, true, None, sym, ◌∙◌, ap, subst, arith}
-use Rattle.qpu_expr.specs.declared.limits.TheConstants.{MOST_WORDS}
+use Rattle.std.proofs.Common.{◌≡◌, None, sym, ◌∙◌, ap, subst, arith}
 use Rattle.qpu_expr.specs.StageParts.{Stage}
-use Rattle.qpu_expr.specs.Stage.{too_long, leaves, labelled, counted}
+use Rattle.qpu_expr.specs.Stage.{too_long, labelled}
 use Rattle.qpu_expr.proofs.RoomLemmas.{not_long, some_room, word_room, words_same}
 use Rattle.qpu_expr.proofs.deed.do_deed.Goals as goal
 

@@ -1,4 +1,4 @@
-use Rattle.std.proofs.Common.{◌≡◌, ◌<◌, length, drop, arith}
+use Rattle.std.proofs.Common.{drop, arith}
 use Rattle.std.proofs.lemmas.List.{take_rest}
 use Rattle.qpu_expr.proofs.OperandLemmas.{no_suffix}
 use Rattle.qpu_expr.proofs.operand.suffixes.Goals as goal
