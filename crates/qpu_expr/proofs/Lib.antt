@@ -3,3 +3,4 @@ pub mod ReadingLemmas
 pub mod OperandLemmas
 pub mod RoomLemmas
 pub mod RunLemmas
+pub mod TableLemmas

@@ -67,6 +67,6 @@ word_room s line none =
     grind (arith, nat_tests, few)
 
 -- a line's count and its label change no count of words
-pub words_same : (label : Option Token) (line : LineTokens) (s : Stage) → (labelled label (counted line s)).words ≡ s.words
-words_same None line s = refl
-words_same (Some name) line s = refl
+pub words_same : (text : List ℕ) (label : Option Token) (line : LineTokens) (s : Stage) → (labelled text label (counted line s)).words ≡ s.words
+words_same text None line s = refl
+words_same text (Some name) line s = refl

@@ -10,7 +10,6 @@ use Rattle.qpu_expr.specs.declared.limits.TheConstants.{MOST_TURNS}
 use Rattle.qpu_expr.specs.declared.place.Place.{Place}
 use Rattle.qpu_expr.specs.declared.expression.Outcome.{Outcome}
 use Rattle.qpu_expr.specs.declared.expression.Outcome.TheVariants.{Whole, Cut, Extra}
-use Rattle.qpu_expr.specs.declared.setting.Setting.{Setting}
 use Rattle.qpu_expr.specs.declared.setting.Expression.{Expression}
 use Rattle.qpu_expr.specs.declared.line.Head.{Head}
 use Rattle.qpu_expr.specs.declared.line.Head.TheVariants as head
@@ -22,12 +21,13 @@ use Rattle.qpu_expr.specs.declared.deed.Act.TheVariants as act
 use Rattle.qpu_expr.specs.declared.deed.Findings.{Findings}
 use Rattle.qpu_expr.specs.declared.deed.Deed.{Deed}
 use Rattle.qpu_expr.specs.Symbols.{place_of, fault_at}
-use Rattle.qpu_expr.specs.Settings.{set_value, expression}
+use Rattle.qpu_expr.specs.Settings.{Sets, expression}
+use Rattle.qpu_expr.specs.Tables.{found}
 use Rattle.qpu_expr.specs.Operands.{is_name, Worked, instruction}
 use Rattle.qpu_expr.specs.LineTokens.{LineTokens}
 use Rattle.qpu_expr.specs.Lines.{label_of, behind_label, head_of, body_length}
 use Rattle.qpu_expr.specs.MacroTokens.{MacroTokens}
-use Rattle.qpu_expr.specs.Macros.{is_comma, names_of, heading_fault, repeated_in, macro_of, arguments_of, argument_fault, body_replaced}
+use Rattle.qpu_expr.specs.Macros.{is_comma, names_of, heading_fault, repeated_in, Macros, arguments_of, argument_fault, body_replaced}
 use Rattle.qpu_expr.specs.StageParts.{Stage}
 use Rattle.qpu_expr.specs.Stage.{too_long, counted, labelled, leaves, changed, label_twice}
 
@@ -86,7 +86,7 @@ set_to end line twice name first e =
     }
     else left_deed end line
 
-unfoldable pub set_deed : List ℕ → List Setting → Token → List Token → Deed
+unfoldable pub set_deed : List ℕ → Sets → Token → List Token → Deed
 set_deed text sets end line = by_tokens (drop 2 line)
   where
     by_tokens : List Token → Deed
@@ -94,7 +94,7 @@ set_deed text sets end line = by_tokens (drop 2 line)
     by_tokens (name ∷ []) = left_deed end line
     by_tokens (name ∷ comma ∷ value) =
         if is_name text name && is_comma text comma
-        then set_to end line (is_some (set_value text sets (text_of text name))) name (place_in end value) (expression text sets value)
+        then set_to end line (is_some (found (text_of text name) sets)) name (place_in end value) (expression text sets value)
         else left_deed end line
 
 -- `.rep`: an expression
@@ -117,17 +117,17 @@ repeat_by deepest dot first e body = record {
     not_some None = true
     not_some (Some n) = false
 
-unfoldable pub repeat_deed : List ℕ → List Setting → Bool → Token → List Token → List LineTokens → Deed
+unfoldable pub repeat_deed : List ℕ → Sets → Bool → Token → List Token → List LineTokens → Deed
 repeat_deed text sets deepest end line behind =
     repeat_by deepest (place_in end line) (place_in end (drop 2 line)) (expression text sets (drop 2 line)) (body_length Repeat text 0 behind)
 
 -- `.macro`: a name, and parameters behind signs `,`
 
 -- the place of the macro's name where it is there, or of the first parameter that is there
-abbrev pub names_twice : List ℕ → List MacroTokens → List Token → Option Place
+abbrev pub names_twice : List ℕ → Macros → List Token → Option Place
 names_twice text macros [] = None
 names_twice text macros (name ∷ parameters) =
-    option_or (when (is_some (macro_of text macros (text_of text name))) (place_of name)) (repeated_in text [] parameters)
+    option_or (when (is_some (found (text_of text name) macros)) (place_of name)) (repeated_in text [] parameters)
 
 abbrev pub defined : List Token → List LineTokens → Change
 defined [] body = change.Nothing
@@ -137,7 +137,7 @@ abbrev pub macro_by : Place → Option Place → Option Place → Option ℕ →
 macro_by dot fault twice None = record { unknown = None; twice = if is_some fault then None else twice; deep = None; zero = None; shape = Some dot; range = None }
 macro_by dot fault twice (Some n) = record { unknown = None; twice = if is_some fault then None else twice; deep = None; zero = None; shape = fault; range = None }
 
-unfoldable pub macro_deed : List ℕ → List MacroTokens → Token → List Token → List LineTokens → Deed
+unfoldable pub macro_deed : List ℕ → Macros → Token → List Token → List LineTokens → Deed
 macro_deed text macros end line behind =
     let heading = names_of text (drop 2 line) in
     let body = body_length Macro text 0 behind in
@@ -172,13 +172,13 @@ worked_deed end w = record {
   act = act.Nothing;
 }
 
-unfoldable pub instruction_deed : List ℕ → List Setting → Token → List Token → Deed
+unfoldable pub instruction_deed : List ℕ → Sets → Token → List Token → Deed
 instruction_deed text sets end line = worked_deed end (instruction text sets line)
 
 -- the macro that a line calls
-abbrev pub called : List ℕ → List MacroTokens → List Token → Option MacroTokens
+abbrev pub called : List ℕ → Macros → List Token → Option MacroTokens
 called text macros [] = None
-called text macros (first ∷ rest) = if is_name text first then macro_of text macros (text_of text first) else None
+called text macros (first ∷ rest) = if is_name text first then found (text_of text first) macros else None
 
 unfoldable pub text_deed : List ℕ → Stage → Bool → Token → List Token → Deed
 text_deed text s deepest end line = by_macro (called text s.macros line)
@@ -221,7 +221,7 @@ done_by text line d s = by_fault (least_fault (label_twice text s.labels (label_
   where
     by_fault : Option AsmFault → Result (Act × Stage) AsmFault
     by_fault (Some fault) = Err fault
-    by_fault None = Ok (d.act, changed d.change (labelled (label_of text line.tokens) (counted line s)))
+    by_fault None = Ok (d.act, changed text d.change (labelled text (label_of text line.tokens) (counted line s)))
 
 unfoldable pub line_does : List ℕ → Bool → LineTokens → List LineTokens → Stage → Result (Act × Stage) AsmFault
 line_does text deepest line behind s =

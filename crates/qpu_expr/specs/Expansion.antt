@@ -1,6 +1,6 @@
 -- The expansion of a text: its lines are done one after another, and behind a line what it asks for.
 -- This project's own.
-use Rattle.std.specs.Prelude.{ℕ, zero, suc, ◌+◌, Bool, true, false, List, [], ◌∷◌, take, slice_get, Option, Some, None, Result, Ok, Err}
+use Rattle.std.specs.Prelude.{ℕ, zero, suc, ◌+◌, Bool, true, false, List, [], ◌∷◌, take, map, slice_get, Option, Some, None, Result, Ok, Err}
 use Rattle.qpu_token.specs.declared.token.Token.{Token}
 use Rattle.qpu_token.specs.declared.fault.AsmFault.{AsmFault}
 use Rattle.qpu_expr.specs.declared.limits.TheConstants.{MOST_DEPTH}
@@ -70,7 +70,7 @@ pub record Left : Type 0 where
   pub labels : List LabelAt
 
 abbrev pub left_of : Stage → Left
-left_of s = record { lines = s.lines; labels = s.labels }
+left_of s = record { lines = s.lines; labels = map (λ e. e.1) s.labels }
 
 unfoldable pub expansion : List ℕ → List Token → Result Left AsmFault
 expansion text tokens = then (run_within text MOST_DEPTH (lines_of text tokens) first_stage) (λ s. Ok (left_of s))

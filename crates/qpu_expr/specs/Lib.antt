@@ -1,3 +1,4 @@
+pub mod Tables
 pub mod Operators
 pub mod Expressions
 pub mod Trees

@@ -1,6 +1,6 @@
 -- Macros: their heading, the arguments of a call, and what replaces the parameters. This project's own.
 use Rattle.std.specs.Prelude.{ℕ, Bool, true, false, List, [], ◌∷◌, ◌++◌, fold, map, slice_get, Option, Some, None, option_and_then, position, if◌then◌else◌}
-use Rattle.std.specs.List.{find, list_any, flat_map}
+use Rattle.std.specs.List.{list_any, flat_map}
 use Rattle.std.specs.Option.{option_or}
 use Rattle.qpu_token.specs.declared.token.Token.{Token}
 use Rattle.qpu_token.specs.Tokens.{text_of}
@@ -57,9 +57,9 @@ repeated_in text before (p ∷ rest) =
 
 -- calls
 
--- the macro with a name
-unfoldable pub macro_of : List ℕ → List MacroTokens → List ℕ → Option MacroTokens
-macro_of text macros name = find (λ m. is_named text name m.name) macros
+-- macros by their names
+abbrev pub Macros : Type 0
+Macros = List (List ℕ × MacroTokens)
 
 -- arguments that signs `,` separate: those before the last sign, the tokens since, and the place of a
 -- sign before which there are none

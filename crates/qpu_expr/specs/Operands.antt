@@ -10,7 +10,6 @@ use Rattle.qpu_expr.specs.declared.symbol.Symbol.{Symbol}
 use Rattle.qpu_expr.specs.declared.symbol.Symbol.TheVariants as symbol
 use Rattle.qpu_expr.specs.declared.expression.Outcome.{Outcome}
 use Rattle.qpu_expr.specs.declared.expression.Outcome.TheVariants.{Whole, Cut, Extra}
-use Rattle.qpu_expr.specs.declared.setting.Setting.{Setting}
 use Rattle.qpu_expr.specs.declared.setting.Expression.{Expression}
 use Rattle.qpu_expr.specs.declared.operand.Operand.{Operand}
 use Rattle.qpu_expr.specs.declared.operand.Between.{Between}
@@ -19,7 +18,8 @@ use Rattle.qpu_expr.specs.declared.operand.Standing.{Standing}
 use Rattle.qpu_expr.specs.declared.operand.Standing.TheVariants as standing
 use Rattle.qpu_expr.specs.Symbols.{symbol_of, place_of}
 use Rattle.qpu_expr.specs.Registers.{is_register}
-use Rattle.qpu_expr.specs.Settings.{set_value, expression}
+use Rattle.qpu_expr.specs.Settings.{Sets, expression}
+use Rattle.qpu_expr.specs.Tables.{found}
 
 -- what stands where
 
@@ -76,13 +76,13 @@ number_of first e Cut = left
 number_of first e (Extra place) = left
 
 -- a name alone: a register's is left, also where it is set; so is one that isn't set
-abbrev pub named : List ℕ → List Setting → List ℕ → Operand
-named text sets name = if is_register name then left else record { value = set_value text sets name; unknown = None; zero = None }
+abbrev pub named : Sets → List ℕ → Operand
+named sets name = if is_register name then left else record { value = found name sets; unknown = None; zero = None }
 
-abbrev pub operand_of : List ℕ → List Setting → List Token → Operand
+abbrev pub operand_of : List ℕ → Sets → List Token → Operand
 operand_of text sets [] = left
 operand_of text sets (first ∷ []) =
-    if is_name text first then named text sets (text_of text first)
+    if is_name text first then named sets (text_of text first)
     else number_of first (expression text sets (first ∷ [])) (expression text sets (first ∷ [])).outcome
 operand_of text sets (first ∷ second ∷ rest) =
     number_of first (expression text sets (first ∷ second ∷ rest)) (expression text sets (first ∷ second ∷ rest)).outcome
@@ -118,13 +118,13 @@ noted operand tokens done = record {
   zero = option_or done.zero operand.zero;
 }
 
-unfoldable pub put_operand : List ℕ → List Setting → List Token → Worked → Worked
+unfoldable pub put_operand : List ℕ → Sets → List Token → Worked → Worked
 put_operand text sets piece done =
     let operand = operand_of text sets (take (core text piece) piece) in
     noted operand (with_value operand.value (core text piece) piece) done
 
 -- the first operand of a part, behind the mnemonic and its suffixes
-unfoldable pub put_first : List ℕ → List Setting → List Token → Worked → Worked
+unfoldable pub put_first : List ℕ → Sets → List Token → Worked → Worked
 put_first text sets [] done = done
 put_first text sets (mnemonic ∷ rest) done =
     if is_name text mnemonic
@@ -132,7 +132,7 @@ put_first text sets (mnemonic ∷ rest) done =
     else put_tokens (mnemonic ∷ rest) done
 
 -- tokens between two signs `,` or `;`. A part that doesn't begin with a name has no operands
-abbrev pub put_piece : List ℕ → List Setting → Standing → List Token → Worked → Worked
+abbrev pub put_piece : List ℕ → Sets → Standing → List Token → Worked → Worked
 put_piece text sets standing.First piece done = put_first text sets piece done
 put_piece text sets standing.Operand piece done = put_operand text sets piece done
 put_piece text sets standing.Other piece done = put_tokens piece done
@@ -154,23 +154,23 @@ abbrev pub nothing_read : Working
 nothing_read = record { standing = standing.First; piece = []; done = nothing_worked }
 
 -- behind a sign
-abbrev pub turned : List ℕ → List Setting → Working → Between → Token → Working
+abbrev pub turned : List ℕ → Sets → Working → Between → Token → Working
 turned text sets w between token = record {
   standing = standing_behind text w.standing w.piece between;
   piece = [];
   done = put_tokens (token ∷ []) (put_piece text sets w.standing w.piece w.done);
 }
 
-abbrev pub worked_on : List ℕ → List Setting → Working → Token → Working
+abbrev pub worked_on : List ℕ → Sets → Working → Token → Working
 worked_on text sets w token = by_sign (separates (symbol_of text token))
   where
     by_sign : Option Between → Working
     by_sign None = record { standing = w.standing; piece = w.piece ++ token ∷ []; done = w.done }
     by_sign (Some between) = turned text sets w between token
 
-abbrev pub all_worked : List ℕ → List Setting → Working → Worked
+abbrev pub all_worked : List ℕ → Sets → Working → Worked
 all_worked text sets w = put_piece text sets w.standing w.piece w.done
 
 -- the tokens of an instruction, with its numbers worked out
-unfoldable pub instruction : List ℕ → List Setting → List Token → Worked
+unfoldable pub instruction : List ℕ → Sets → List Token → Worked
 instruction text sets tokens = all_worked text sets (fold (worked_on text sets) nothing_read tokens)

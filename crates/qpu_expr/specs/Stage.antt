@@ -1,8 +1,6 @@
 -- What the lines of a text have led to: lines that are left, labels, sets, macros, and counts. This
 -- project's own.
-use Rattle.std.specs.Prelude.{ℕ, ◌+◌, ◌-◌, ◌&&◌, Bool, true, false, nat_eq, nat_le, List, [], ◌∷◌, ◌++◌, length, slice_get, slice_range, Option, Some, None, option_map, Result, Ok, Err, if◌then◌else◌}
-use Rattle.std.specs.List.{list_any}
-use Rattle.std.specs.Cmp.Lexicographic.{pointwise}
+use Rattle.std.specs.Prelude.{ℕ, ◌+◌, ◌-◌, ◌&&◌, Bool, true, false, nat_le, List, [], ◌∷◌, ◌++◌, length, slice_get, Option, Some, None, option_map, is_some, Result, Ok, Err, if◌then◌else◌}
 use Rattle.qpu_token.specs.declared.token.Token.{Token}
 use Rattle.qpu_token.specs.declared.fault.AsmFault.{AsmFault}
 use Rattle.qpu_token.specs.declared.fault.AsmKind.TheVariants.{TooLong}
@@ -15,6 +13,7 @@ use Rattle.qpu_expr.specs.declared.state.Change.TheVariants as change
 use Rattle.qpu_expr.specs.Symbols.{place_of, fault_at}
 use Rattle.qpu_expr.specs.LineTokens.{LineTokens}
 use Rattle.qpu_expr.specs.StageParts.{Stage}
+use Rattle.qpu_expr.specs.Tables.{found, put_in}
 
 -- before the first line
 abbrev pub first_stage : Stage
@@ -47,9 +46,9 @@ abbrev pub turn_counted : Place → Stage → Result Stage AsmFault
 turn_counted place s = if nat_le MOST_LINES s.reached then Err (fault_at TooLong place) else Ok (record s { reached = s.reached + 1 })
 
 -- a label stands before the next word
-abbrev pub labelled : Option Token → Stage → Stage
-labelled None s = s
-labelled (Some name) s = record s { labels = s.labels ++ record { from = name.from; to = name.to; word = s.words } ∷ [] }
+abbrev pub labelled : List ℕ → Option Token → Stage → Stage
+labelled text None s = s
+labelled text (Some name) s = record s { labels = put_in (text_of text name) (record { from = name.from; to = name.to; word = s.words }) s.labels }
 
 -- whether a change leaves a line, which gives a word
 abbrev pub leaves : Change → Bool
@@ -58,16 +57,14 @@ leaves (change.Sets setting) = false
 leaves (change.Defines m) = false
 leaves (change.Leaves line) = true
 
-abbrev pub changed : Change → Stage → Stage
-changed change.Nothing s = s
-changed (change.Sets setting) s = record s { sets = s.sets ++ setting ∷ [] }
-changed (change.Defines m) s = record s { macros = s.macros ++ m ∷ [] }
-changed (change.Leaves line) s = record s { lines = s.lines ++ line ∷ []; words = s.words + 1 }
+-- what is put under a name isn't there, since the second of a name is a fault
+abbrev pub changed : List ℕ → Change → Stage → Stage
+changed text change.Nothing s = s
+changed text (change.Sets setting) s = record s { sets = put_in (text_of text setting.name) setting.value s.sets }
+changed text (change.Defines m) s = record s { macros = put_in (text_of text m.name) m s.macros }
+changed text (change.Leaves line) s = record s { lines = s.lines ++ line ∷ []; words = s.words + 1 }
 
--- whether a label with a name is there
-abbrev pub has_label : List ℕ → List LabelAt → Token → Bool
-has_label text labels name = list_any (λ label. pointwise nat_eq (slice_range text label.from label.to) (text_of text name)) labels
-
-abbrev pub label_twice : List ℕ → List LabelAt → Option Token → Option Place
+-- the place of a label whose name is there
+abbrev pub label_twice : List ℕ → List (List ℕ × LabelAt) → Option Token → Option Place
 label_twice text labels None = None
-label_twice text labels (Some name) = if has_label text labels name then Some (place_of name) else None
+label_twice text labels (Some name) = if is_some (found (text_of text name) labels) then Some (place_of name) else None

@@ -10,13 +10,14 @@ use crate::expanded::PlainLine;
 use crate::expression::Outcome;
 use crate::limits::MOST_TURNS;
 use crate::line::{Head, Line, Pair, behind_label, body_length, head_of, label_of};
-use crate::macros::{Macro, body_replaced, call_of, is_comma, macro_of, names_of, repeated};
+use crate::macros::{Macro, body_replaced, call_of, is_comma, names_of, repeated};
 use crate::operand::{Work, instruction, is_name};
 use crate::place::{Place, fault_at, place_of};
 use crate::setting::{Expression, Setting, read_expression, set_value};
 use crate::state::{Change, State};
 use crate::stop::Stop;
 use crate::symbol::text_of;
+use crate::table::Table;
 use qpu_token::{AsmFault, AsmKind, Token};
 use std::alloc::{AllocError, Global};
 use std::marker::Model;
@@ -223,7 +224,7 @@ fn set_to(
 fn set_deed(
     alloc: Global,
     text: &[u8],
-    sets: &[Setting],
+    sets: &Table<u32>,
     end: Token,
     line: &[Token],
 ) -> Result<Deed, AllocError>
@@ -231,7 +232,7 @@ fn set_deed(
 {
     match behind_word(line) {
         [name, comma, value @ ..] if is_name(text, *name) && is_comma(text, *comma) => {
-            let twice = set_value(text, sets, text_of(text, *name)).is_some();
+            let twice = set_value(sets, text_of(text, *name)).is_some();
             let e = read_expression(alloc, text, sets, value)?;
             set_to(alloc, end, line, twice, *name, place_in(end, value), e)
         }
@@ -267,7 +268,7 @@ fn repeat_by(deepest: bool, dot: Place, first: Place, e: Expression, body: Optio
 fn repeat_deed(
     alloc: Global,
     text: &[u8],
-    sets: &[Setting],
+    sets: &Table<u32>,
     deepest: bool,
     end: Token,
     line: &[Token],
@@ -282,13 +283,13 @@ fn repeat_deed(
 }
 
 /// The place of the macro's name where it is there already, or of the first parameter that is.
-fn names_twice(text: &[u8], macros: &[Macro], names: &[Token]) -> Option<Place>
+fn names_twice(text: &[u8], macros: &Table<Macro>, names: &[Token]) -> Option<Place>
     ensures { result ≡ names_twice text.now macros.now names.now }
 {
     match names {
         [] => None,
         [name, parameters @ ..] => {
-            let there = macro_of(text, macros, text_of(text, *name)).is_some();
+            let there = macros.get(text_of(text, *name)).is_some();
             when(there, place_of(*name)).or(repeated(text, parameters))
         }
     }
@@ -359,7 +360,7 @@ fn macro_by(dot: Place, fault: Option<Place>, twice: Option<Place>, body: Option
 fn macro_deed(
     alloc: Global,
     text: &[u8],
-    macros: &[Macro],
+    macros: &Table<Macro>,
     end: Token,
     line: &[Token],
     behind: &[Line],
@@ -451,7 +452,7 @@ fn worked_deed(end: Token, work: Work) -> Result<Deed, AllocError>
 fn instruction_deed(
     alloc: Global,
     text: &[u8],
-    sets: &[Setting],
+    sets: &Table<u32>,
     end: Token,
     line: &[Token],
 ) -> Result<Deed, AllocError>
@@ -462,11 +463,11 @@ fn instruction_deed(
 }
 
 /// The macro that a line calls.
-fn called<'a>(text: &[u8], macros: &'a [Macro], line: &[Token]) -> Option<&'a Macro>
+fn called<'a>(text: &[u8], macros: &'a Table<Macro>, line: &[Token]) -> Option<&'a Macro>
     ensures { option_copied result ≡ called text.now macros.now line.now }
 {
     match line {
-        [first, ..] if is_name(text, *first) => macro_of(text, macros, text_of(text, *first)),
+        [first, ..] if is_name(text, *first) => macros.get(text_of(text, *first)),
         _ => None,
     }
 }
@@ -549,7 +550,13 @@ fn least_fault(label: Option<Place>, long: Option<Place>, f: Findings) -> Option
 
 /// Does what a line does, unless it has a fault.
 #[tactic(auto, unfolding(crate::specs::Deeds::done_by))]
-fn do_deed(text: &[u8], line: &Line, deed: Deed, state: &mut State) -> Result<Act, Stop>
+fn do_deed(
+    alloc: Global,
+    text: &[u8],
+    line: &Line,
+    deed: Deed,
+    state: &mut State,
+) -> Result<Act, Stop>
     ensures { Led (done_by text.now line.now deed state.old) state.new result }
 {
     let label = label_of(text, &line.tokens);
@@ -558,8 +565,8 @@ fn do_deed(text: &[u8], line: &Line, deed: Deed, state: &mut State) -> Result<Ac
         return Err(Stop::Fault(fault));
     }
     state.count(line);
-    state.put_label(label)?;
-    state.change(deed.change)?;
+    state.put_label(alloc, text, label)?;
+    state.change(alloc, text, deed.change)?;
     Ok(deed.act)
 }
 
@@ -577,7 +584,7 @@ pub(crate) fn take_line(
 {
     let tokens = behind_label(text, &line.tokens);
     let deed = deed_of(alloc, text, state, deepest, line.end, tokens, behind)?;
-    do_deed(text, line, deed, state)
+    do_deed(alloc, text, line, deed, state)
 }
 
 /// The faults of the line that closes a body.
@@ -600,9 +607,14 @@ fn closing_deed(line: &[Token]) -> Deed
 
 /// Reaches the line that closes a body.
 #[tactic(auto, unfolding(crate::specs::Deeds::closes))]
-pub(crate) fn close_line(text: &[u8], line: &Line, state: &mut State) -> Result<Act, Stop>
+pub(crate) fn close_line(
+    alloc: Global,
+    text: &[u8],
+    line: &Line,
+    state: &mut State,
+) -> Result<Act, Stop>
     ensures { Led (closes text.now line.now state.old) state.new result }
 {
     let deed = closing_deed(behind_label(text, &line.tokens));
-    do_deed(text, line, deed, state)
+    do_deed(alloc, text, line, deed, state)
 }

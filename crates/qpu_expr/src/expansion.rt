@@ -42,12 +42,18 @@ fn behind_body(lines: usize, behind: &[Line]) -> &[Line]
 }
 
 /// Reaches the line that closes a body, where there is one.
-fn close(text: &[u8], lines: usize, behind: &[Line], state: &mut State) -> Result<(), Stop>
+fn close(
+    alloc: Global,
+    text: &[u8],
+    lines: usize,
+    behind: &[Line],
+    state: &mut State,
+) -> Result<(), Stop>
     ensures { Leads (closed text.now (slice_get behind.now lines) state.old) state.new result }
 {
     match behind.get(lines) {
         Some(line) => {
-            close_line(text, line, state)?;
+            close_line(alloc, text, line, state)?;
             Ok(())
         }
         None => Ok(()),
@@ -130,9 +136,9 @@ fn perform(
                 depth,
                 state,
             )?;
-            close(text, *lines, behind, state)
+            close(alloc, text, *lines, behind, state)
         }
-        Act::Passes { lines } => close(text, *lines, behind, state),
+        Act::Passes { lines } => close(alloc, text, *lines, behind, state),
         Act::Calls(body) => run_below(alloc, text, &body.lines, depth, state),
     }
 }

@@ -21,8 +21,12 @@ mod setting;
 mod state;
 mod stop;
 mod symbol;
+mod table;
 mod whole;
 
 pub use expanded::{Expanded, LabelAt, PlainLine};
 pub use laws::reads_trees;
 pub use whole::expand;
+
+#[cfg(test)]
+mod tests;

@@ -4,7 +4,7 @@ ghost use Rattle.std.specs.List.{flat_map, list_any};
 ghost use Rattle.std.specs.Option.{option_or};
 ghost use Rattle.qpu_expr.specs.Symbols.{is_named};
 ghost use Rattle.qpu_expr.specs.LineTokens.{LineTokens};
-ghost use Rattle.qpu_expr.specs.Macros.{is_comma, Names, no_name, named_on, names_of, heading_fault, repeated_in, macro_of, Arguments, no_argument, empty_place, argued, arguments_read, arguments_of, argument_fault, argument_for, placed, replaced, line_replaced, body_replaced};
+ghost use Rattle.qpu_expr.specs.Macros.{is_comma, Names, no_name, named_on, names_of, heading_fault, repeated_in, Arguments, no_argument, empty_place, argued, arguments_read, arguments_of, argument_fault, argument_for, placed, replaced, line_replaced, body_replaced};
 
 use crate::line::Line;
 use crate::operand::is_name;
@@ -147,14 +147,6 @@ pub(crate) fn repeated(text: &[u8], parameters: &[Token]) -> Option<Place>
         }
     }
     None
-}
-
-/// The macro with a name.
-#[tactic(auto, unfolding(crate::specs::Macros::macro_of))]
-pub(crate) fn macro_of<'a>(text: &[u8], macros: &'a [Macro], name: &[u8]) -> Option<&'a Macro>
-    ensures { option_copied result ≡ macro_of text.now macros.now name.now }
-{
-    macros.iter().find(|m| is_named(text, name, m.name))
 }
 
 /// An argument of a call.

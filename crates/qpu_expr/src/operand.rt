@@ -5,8 +5,9 @@ ghost use Rattle.qpu_expr.specs.Operands.{is_name, is_dot, names, points, separa
 use crate::expression::Outcome;
 use crate::place::{Place, place_of};
 use crate::register::is_register;
-use crate::setting::{Expression, Setting, read_expression, set_value};
+use crate::setting::{Expression, read_expression, set_value};
 use crate::symbol::{Sign, Symbol, symbol_of, text_of};
+use crate::table::Table;
 use qpu_token::{Token, TokenKind};
 use std::alloc::{AllocError, Global};
 use std::marker::Model;
@@ -146,14 +147,14 @@ fn number_of(first: Token, e: Expression) -> Operand
 }
 
 /// What a name alone comes to.
-fn named(text: &[u8], sets: &[Setting], name: &[u8]) -> Operand
-    ensures { result ≡ named text.now sets.now name.now }
+fn named(sets: &Table<u32>, name: &[u8]) -> Operand
+    ensures { result ≡ named sets.now name.now }
 {
     if is_register(name) {
         return LEFT;
     }
     Operand {
-        value: set_value(text, sets, name),
+        value: set_value(sets, name),
         unknown: None,
         zero: None,
     }
@@ -163,14 +164,14 @@ fn named(text: &[u8], sets: &[Setting], name: &[u8]) -> Operand
 fn operand_of(
     alloc: Global,
     text: &[u8],
-    sets: &[Setting],
+    sets: &Table<u32>,
     tokens: &[Token],
 ) -> Result<Operand, AllocError>
     ensures { IfOk result (λ operand. operand ≡ operand_of text.now sets.now tokens.now) }
 {
     match tokens {
         [] => Ok(LEFT),
-        [first] if is_name(text, *first) => Ok(named(text, sets, text_of(text, *first))),
+        [first] if is_name(text, *first) => Ok(named(sets, text_of(text, *first))),
         [first, ..] => Ok(number_of(*first, read_expression(alloc, text, sets, tokens)?)),
     }
 }
@@ -255,7 +256,7 @@ impl Work {
         &mut self,
         alloc: Global,
         text: &[u8],
-        sets: &[Setting],
+        sets: &Table<u32>,
         piece: &[Token],
     ) -> Result<(), AllocError>
         ensures { OnOk result (self.new ≡ put_operand text.now sets.now piece.now self.old) }
@@ -273,7 +274,7 @@ impl Work {
         &mut self,
         alloc: Global,
         text: &[u8],
-        sets: &[Setting],
+        sets: &Table<u32>,
         piece: &[Token],
     ) -> Result<(), AllocError>
         ensures { OnOk result (self.new ≡ put_first text.now sets.now piece.now self.old) }
@@ -295,7 +296,7 @@ impl Work {
         &mut self,
         alloc: Global,
         text: &[u8],
-        sets: &[Setting],
+        sets: &Table<u32>,
         standing: Standing,
         piece: &[Token],
     ) -> Result<(), AllocError>
@@ -370,7 +371,7 @@ impl Worker {
         &mut self,
         alloc: Global,
         text: &[u8],
-        sets: &[Setting],
+        sets: &Table<u32>,
         between: Between,
         token: Token,
     ) -> Result<(), AllocError>
@@ -389,7 +390,7 @@ impl Worker {
         &mut self,
         alloc: Global,
         text: &[u8],
-        sets: &[Setting],
+        sets: &Table<u32>,
         token: Token,
     ) -> Result<(), AllocError>
         ensures { OnOk result (self.new ≡ worked_on text.now sets.now self.old token) }
@@ -404,7 +405,7 @@ impl Worker {
     }
 
     /// What all tokens come to.
-    fn finish(mut self, alloc: Global, text: &[u8], sets: &[Setting]) -> Result<Work, AllocError>
+    fn finish(mut self, alloc: Global, text: &[u8], sets: &Table<u32>) -> Result<Work, AllocError>
         ensures { IfOk result (λ work. work ≡ all_worked text.now sets.now self) }
     {
         self.done
@@ -418,7 +419,7 @@ impl Worker {
 pub(crate) fn instruction(
     alloc: Global,
     text: &[u8],
-    sets: &[Setting],
+    sets: &Table<u32>,
     tokens: &[Token],
 ) -> Result<Work, AllocError>
     ensures { IfOk result (λ work. work ≡ instruction text.now sets.now tokens.now) }

@@ -2,11 +2,13 @@
 ghost use Rattle.std.specs.Prelude.{◌≡◌, IfOk, map};
 ghost use Rattle.std.specs.List.{list_any};
 ghost use Rattle.qpu_expr.specs.Expressions.{outcome_of};
-ghost use Rattle.qpu_expr.specs.Settings.{set_value, what_is, item_of, is_unknown, expression};
+ghost use Rattle.qpu_expr.specs.Tables.{found};
+ghost use Rattle.qpu_expr.specs.Settings.{what_is, item_of, is_unknown, expression};
 
 use crate::expression::{Item, Outcome, Reader, What};
 use crate::place::place_of;
-use crate::symbol::{Sign, Symbol, is_named, symbol_of, text_of};
+use crate::symbol::{Sign, Symbol, symbol_of, text_of};
+use crate::table::Table;
 use qpu_token::Token;
 use std::alloc::{AllocError, Global};
 
@@ -29,21 +31,18 @@ pub(crate) struct Expression {
 }
 
 /// The value of a name; none where it isn't set.
-#[tactic(auto, unfolding(crate::specs::Settings::set_value))]
-pub(crate) fn set_value(text: &[u8], sets: &[Setting], name: &[u8]) -> Option<u32>
-    ensures { result ≡ set_value text.now sets.now name.now }
+pub(crate) fn set_value(sets: &Table<u32>, name: &[u8]) -> Option<u32>
+    ensures { result ≡ found name.now sets.now }
 {
-    sets.iter()
-        .find(|s| is_named(text, name, s.name))
-        .map(|s| s.value)
+    sets.get(name).copied()
 }
 
 /// What a token is in an expression.
-fn what_is(text: &[u8], sets: &[Setting], token: Token, symbol: Symbol) -> What
+fn what_is(text: &[u8], sets: &Table<u32>, token: Token, symbol: Symbol) -> What
     ensures { result ≡ what_is text.now sets.now token symbol }
 {
     match symbol {
-        Symbol::Name => What::Value(set_value(text, sets, text_of(text, token)).unwrap_or(0)),
+        Symbol::Name => What::Value(set_value(sets, text_of(text, token)).unwrap_or(0)),
         Symbol::Number(value) => What::Value((value & 0xffff_ffff) as u32),
         Symbol::Sign(Sign::Open) => What::Open,
         Symbol::Sign(Sign::Close) => What::Close,
@@ -55,7 +54,7 @@ fn what_is(text: &[u8], sets: &[Setting], token: Token, symbol: Symbol) -> What
 
 /// A token as an item of an expression.
 #[tactic(auto, unfolding(crate::specs::Settings::item_of))]
-fn item_of(text: &[u8], sets: &[Setting], token: Token) -> Item
+fn item_of(text: &[u8], sets: &Table<u32>, token: Token) -> Item
     ensures { result ≡ item_of text.now sets.now token }
 {
     Item {
@@ -66,17 +65,17 @@ fn item_of(text: &[u8], sets: &[Setting], token: Token) -> Item
 
 /// Whether a token is a name that isn't set.
 #[tactic(auto, unfolding(crate::specs::Settings::is_unknown))]
-fn is_unknown(text: &[u8], sets: &[Setting], token: Token) -> bool
+fn is_unknown(text: &[u8], sets: &Table<u32>, token: Token) -> bool
     ensures { result ≡ is_unknown text.now sets.now token }
 {
     match symbol_of(text, token) {
-        Symbol::Name => set_value(text, sets, text_of(text, token)).is_none(),
+        Symbol::Name => set_value(sets, text_of(text, token)).is_none(),
         Symbol::Number(_) | Symbol::Sign(_) | Symbol::LineEnd => false,
     }
 }
 
 /// Whether a name among tokens isn't set.
-fn has_unknown(text: &[u8], sets: &[Setting], tokens: &[Token]) -> bool
+fn has_unknown(text: &[u8], sets: &Table<u32>, tokens: &[Token]) -> bool
     ensures { result ≡ list_any (is_unknown text.now sets.now) tokens.now }
 {
     tokens.iter().any(|token| is_unknown(text, sets, *token))
@@ -87,7 +86,7 @@ fn has_unknown(text: &[u8], sets: &[Setting], tokens: &[Token]) -> bool
 fn outcome_of(
     alloc: Global,
     text: &[u8],
-    sets: &[Setting],
+    sets: &Table<u32>,
     tokens: &[Token],
 ) -> Result<Outcome, AllocError>
     ensures { IfOk result (λ outcome. outcome ≡ outcome_of (map (item_of text.now sets.now) tokens.now)) }
@@ -104,7 +103,7 @@ fn outcome_of(
 pub(crate) fn read_expression(
     alloc: Global,
     text: &[u8],
-    sets: &[Setting],
+    sets: &Table<u32>,
     tokens: &[Token],
 ) -> Result<Expression, AllocError>
     ensures { IfOk result (λ e. e ≡ expression text.now sets.now tokens.now) }

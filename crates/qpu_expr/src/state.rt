@@ -1,10 +1,9 @@
 //! What the lines of a text have led to.
-ghost use Rattle.std.specs.Prelude.{◌≡◌, ◌≤◌, ◌<◌, ◌^◌, ◌+◌, ◌-◌, ◌++◌, ◌∷◌, [], length, OnOk, Some, None, true, nat_eq, slice_range, slice_get, option_map, Ok, Err, if◌then◌else◌};
-ghost use Rattle.std.specs.Cmp.Lexicographic.{pointwise};
+ghost use Rattle.std.specs.Prelude.{◌≡◌, ◌≤◌, ◌<◌, ◌^◌, ◌+◌, ◌-◌, ◌++◌, ◌∷◌, [], length, OnOk, IfOk, map, Some, None, true, slice_get, option_map, Ok, Err, if◌then◌else◌};
 ghost use Rattle.qpu_token.specs.declared.fault.AsmKind.TheVariants.{TooLong};
 ghost use Rattle.qpu_expr.specs.declared.place.Place.{Place};
 ghost use Rattle.qpu_expr.specs.Symbols.{place_of, fault_at};
-ghost use Rattle.qpu_expr.specs.Stage.{first_stage, line_place, too_long, counted, turn_counted, labelled, leaves, changed, has_label, label_twice};
+ghost use Rattle.qpu_expr.specs.Stage.{first_stage, line_place, too_long, counted, turn_counted, labelled, leaves, changed, label_twice};
 ghost use Rattle.qpu_expr.specs.Room.{HasRoom};
 
 use crate::expanded::{Expanded, LabelAt, PlainLine};
@@ -14,6 +13,7 @@ use crate::macros::Macro;
 use crate::place::{Place, place_of};
 use crate::setting::Setting;
 use crate::symbol::text_of;
+use crate::table::Table;
 use qpu_token::Token;
 use std::alloc::{AllocError, Global};
 use std::marker::Model;
@@ -44,9 +44,9 @@ impl Change {
 #[derive(Drop)]
 pub(crate) struct State {
     lines: Vec<PlainLine>,
-    labels: Vec<LabelAt>,
-    sets: Vec<Setting>,
-    macros: Vec<Macro>,
+    labels: Table<LabelAt>,
+    sets: Table<u32>,
+    macros: Table<Macro>,
     reached: u32,
     tokens: usize,
     words: u32,
@@ -59,9 +59,9 @@ impl Model for State {
 
     ghost view = { λ s. record {
       lines = s.lines.items;
-      labels = s.labels.items;
-      sets = s.sets.items;
-      macros = s.macros.items;
+      labels = s.labels;
+      sets = s.sets;
+      macros = s.macros;
       reached = s.reached;
       tokens = s.tokens;
       words = s.words;
@@ -81,23 +81,6 @@ fn line_place(line: &Line) -> Place
     }
 }
 
-/// Whether a label has a name.
-fn is_label(text: &[u8], label: LabelAt, name: &[u8]) -> bool
-    ensures { result ≡ pointwise nat_eq (slice_range text.now label.from label.to) name.now }
-{
-    let to = label.to.min(text.len());
-    let from = label.from.min(to);
-    &text[from..to] == name
-}
-
-/// Whether a label with a name is there.
-fn has_label(text: &[u8], labels: &[LabelAt], name: Token) -> bool
-    ensures { result ≡ has_label text.now labels.now name }
-{
-    let name = text_of(text, name);
-    labels.iter().any(|label| is_label(text, *label, name))
-}
-
 impl State {
     /// Before the first line.
     pub(crate) fn new(alloc: Global) -> State
@@ -105,9 +88,9 @@ impl State {
     {
         State {
             lines: Vec::new(alloc),
-            labels: Vec::new(alloc),
-            sets: Vec::new(alloc),
-            macros: Vec::new(alloc),
+            labels: Table::new(alloc),
+            sets: Table::new(alloc),
+            macros: Table::new(alloc),
             reached: 0,
             tokens: 0,
             words: 0,
@@ -115,14 +98,14 @@ impl State {
     }
 
     /// The names that are set.
-    pub(crate) fn sets(&self) -> &[Setting]
+    pub(crate) fn sets(&self) -> &Table<u32>
         ensures { result.now ≡ self.now.sets }
     {
         &self.sets
     }
 
     /// The macros.
-    pub(crate) fn macros(&self) -> &[Macro]
+    pub(crate) fn macros(&self) -> &Table<Macro>
         ensures { result.now ≡ self.now.macros }
     {
         &self.macros
@@ -133,7 +116,7 @@ impl State {
         ensures { result ≡ label_twice text.now self.now.labels label }
     {
         match label {
-            Some(name) if has_label(text, &self.labels, name) => Some(place_of(name)),
+            Some(name) if self.labels.get(text_of(text, name)).is_some() => Some(place_of(name)),
             _ => None,
         }
     }
@@ -180,44 +163,58 @@ impl State {
     }
 
     /// Puts a label before the next word.
-    pub(crate) fn put_label(&mut self, label: Option<Token>) -> Result<(), AllocError>
-        ensures { OnOk result (self.new ≡ labelled label self.old) }
+    pub(crate) fn put_label(
+        &mut self,
+        alloc: Global,
+        text: &[u8],
+        label: Option<Token>,
+    ) -> Result<(), AllocError>
+        ensures { OnOk result (self.new ≡ labelled text.now label self.old) }
     {
-        if let Some(name) = label {
-            self.labels.push(LabelAt {
-                from: name.from,
-                to: name.to,
-                word: self.words,
-            })?;
-        }
-        Ok(())
+        let Some(name) = label else {
+            return Ok(());
+        };
+        let at = LabelAt {
+            from: name.from,
+            to: name.to,
+            word: self.words,
+        };
+        self.labels.put(alloc, text_of(text, name), at)
     }
 
     /// Makes the change of a line.
-    pub(crate) fn change(&mut self, change: Change) -> Result<(), AllocError>
+    pub(crate) fn change(
+        &mut self,
+        alloc: Global,
+        text: &[u8],
+        change: Change,
+    ) -> Result<(), AllocError>
         requires { leaves change ≡ true → self.old.words < MOST_WORDS }
-        ensures { OnOk result (self.new ≡ changed change self.old) }
+        ensures { OnOk result (self.new ≡ changed text.now change self.old) }
     {
         match change {
-            Change::Nothing => {}
-            Change::Sets(setting) => self.sets.push(setting)?,
-            Change::Defines(m) => self.macros.push(m)?,
+            Change::Nothing => Ok(()),
+            Change::Sets(setting) => self
+                .sets
+                .put(alloc, text_of(text, setting.name), setting.value),
+            Change::Defines(m) => self.macros.put(alloc, text_of(text, m.name), m),
             Change::Leaves(line) => {
                 self.lines.push(line)?;
                 self.words += 1;
+                Ok(())
             }
         }
-        Ok(())
     }
 
     /// What is left of the text.
-    pub(crate) fn expanded(self) -> Expanded
-        ensures lines { result.lines.items ≡ self.lines }
-        ensures labels { result.labels.items ≡ self.labels }
+    pub(crate) fn expanded(self, alloc: Global) -> Result<Expanded, AllocError>
+        ensures lines { IfOk result (λ e. e.lines.items ≡ self.lines) }
+        ensures labels { IfOk result (λ e. e.labels.items ≡ map (λ l. l.1) self.labels) }
     {
-        Expanded {
+        let labels = self.labels.into_values(alloc)?;
+        Ok(Expanded {
             lines: self.lines,
-            labels: self.labels,
-        }
+            labels,
+        })
     }
 }

@@ -33,5 +33,6 @@ fn expand_all(alloc: Global, text: &[u8], tokens: &[Token]) -> Result<Expanded, 
     let lines = lines_of(alloc, text, tokens)?;
     let mut state = State::new(alloc);
     run_lines(alloc, text, &lines, MOST_DEPTH, &mut state)?;
-    Ok(state.expanded())
+    let expanded = state.expanded(alloc)?;
+    Ok(expanded)
 }

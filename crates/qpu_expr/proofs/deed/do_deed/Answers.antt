@@ -13,7 +13,7 @@ pub change-requires : goal.change-requires
 change-requires c = λ left.
     let none : too_long c.args.state.now c.args.line.now c.leaves.result ≡ None = sym c.too_long-long.ensures ∙ not_long c.label_twice.result c.too_long-long.result c.args.deed.findings (sym c.least_fault.ensures ∙ c.in_default.is) in
     let room = word_room c.args.state.now c.args.line.now (subst (λ w. too_long c.args.state.now c.args.line.now w ≡ None) (c.leaves.ensures ∙ left) none) in
-    let before = words_same c.label_of-label.result c.args.line.now c.args.state.now in
+    let before = words_same c.args.text.now c.label_of-label.result c.args.line.now c.args.state.now in
     let labels = ap (λ (s : Stage). s.words) c.in_ok-put_label.ensures in
-    let counts = ap (λ (s : Stage). (labelled c.label_of-label.result s).words) c.count.ensures in
+    let counts = ap (λ (s : Stage). (labelled c.args.text.now c.label_of-label.result s).words) c.count.ensures in
     omega (arith, room, before, labels, counts)
