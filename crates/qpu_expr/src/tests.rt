@@ -409,6 +409,7 @@ fn lines_words_and_tokens_have_limits(rt: HostRuntime) -> Result<(), Fail> {
         (".rep 4096\n", "\n", 15, ".endr\n", (16, 1)),
         (".rep 4096\n", "nop ", 256, "\n.endr", (2, 1013)),
         ("", "\n", 65_537, "", (65_537, 1)),
+        ("", "nop\n", 4097, "", (4097, 1)),
         ("", "\n", 65_536, "nop", (65_537, 1)),
         (".rep 0\nnop\n.endr\n", "\n", 65_535, "", (65_538, 1)),
         (".rep 3\n.endr\n", "\n", 65_532, "", (65_534, 1)),
