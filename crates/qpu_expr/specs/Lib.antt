@@ -13,6 +13,9 @@ pub mod Macros
 pub mod StageParts
 pub mod Stage
 pub mod Room
+pub mod Findings
+pub mod Directives
+pub mod Calls
 pub mod Deeds
 pub mod Leads
 pub mod Expansion

@@ -5,7 +5,9 @@ ghost use Rattle.qpu_expr.specs.Leads.{Leads};
 ghost use Rattle.qpu_expr.specs.Expansion.{turns, closed, performed, taken, run_within};
 ghost use Rattle.qpu_expr.specs.Nesting.{is_deepest, below};
 
-use crate::deed::{Act, close_line, front, take_line};
+use crate::deed::Act;
+use crate::directive::front;
+use crate::judge::{close_line, take_line};
 use crate::line::Line;
 use crate::place::{Place, fault_at};
 use crate::state::State;

@@ -5,10 +5,13 @@
 //! word, and the labels with the words behind them. What a plain line means is not told here.
 #![tactic(auto)]
 
+mod call;
 mod deed;
+mod directive;
 mod expanded;
 mod expansion;
 mod expression;
+mod judge;
 mod laws;
 mod limits;
 mod line;

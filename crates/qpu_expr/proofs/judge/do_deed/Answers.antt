@@ -2,7 +2,7 @@ use Rattle.std.proofs.Common.{◌≡◌, None, sym, ◌∙◌, ap, subst, arith}
 use Rattle.qpu_expr.specs.StageParts.{Stage}
 use Rattle.qpu_expr.specs.Stage.{too_long, labelled}
 use Rattle.qpu_expr.proofs.RoomLemmas.{not_long, some_room, word_room, words_same}
-use Rattle.qpu_expr.proofs.deed.do_deed.Goals as goal
+use Rattle.qpu_expr.proofs.judge.do_deed.Goals as goal
 
 pub count-requires : goal.count-requires
 count-requires c =
