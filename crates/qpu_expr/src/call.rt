@@ -1,33 +1,16 @@
 //! What calls of macros and instructions do by themselves.
-ghost use Rattle.std.specs.Prelude.{◌≡◌, ◌++◌, ◌∷◌, [], length, take, drop, IfOk, OnOk, Some, None, Ok, Err, is_some, unwrap_or, option_map, option_copied};
-ghost use Rattle.qpu_expr.specs.Leads.{Led};
-ghost use Rattle.qpu_token.specs.declared.token.Token.{Token};
-ghost use Rattle.qpu_token.specs.Tokens.{text_of};
-ghost use Rattle.qpu_expr.specs.Lines.{behind_label, head_of};
-ghost use Rattle.qpu_expr.specs.Findings.{no_findings, place_in, when, left_deed, is_whole, value_in, zero_in, misshapen};
-ghost use Rattle.qpu_expr.specs.Directives.{set_to, set_deed, repeat_by, repeat_deed, names_twice, defined, macro_by, macro_deed, stray_deed};
+ghost use Rattle.std.specs.Prelude.{◌≡◌, drop, IfOk, option_copied};
 ghost use Rattle.qpu_expr.specs.Calls.{call_deed, worked_deed, instruction_deed, called, text_deed};
-ghost use Rattle.qpu_expr.specs.Deeds.{deed_by, fault_in, least_fault, done_by, line_does, closing_deed, closes};
 
-use crate::deed::{
-    Act, Body, Deed, Findings, NO_FINDINGS, behind_word, left_deed, place_in, plain_line,
-    stray_deed, when,
-};
+use crate::deed::{Act, Body, Deed, Findings, NO_FINDINGS, place_in, when};
 use crate::expanded::PlainLine;
-use crate::expression::Outcome;
-use crate::limits::MOST_TURNS;
-use crate::line::{Head, Line, Pair, behind_label, body_length, head_of, label_of};
-use crate::macros::{Macro, body_replaced, call_of, is_comma, names_of, repeated};
+use crate::macros::{Macro, body_replaced, call_of};
 use crate::operand::{Work, instruction, is_name};
-use crate::place::{Place, fault_at, place_of};
-use crate::setting::{Expression, Setting, read_expression, set_value};
 use crate::state::{Change, State};
-use crate::stop::Stop;
 use crate::symbol::text_of;
 use crate::table::Table;
-use qpu_token::{AsmFault, AsmKind, Token};
+use qpu_token::Token;
 use std::alloc::{AllocError, Global};
-use std::marker::Model;
 
 /// The tokens behind the first.
 fn behind_first(line: &[Token]) -> &[Token]

@@ -1,5 +1,5 @@
 //! The expansion of a text.
-ghost use Rattle.std.specs.Prelude.{◌≡◌, ◌+◌, drop, slice_get, option_copied};
+ghost use Rattle.std.specs.Prelude.{◌≡◌, ◌+◌, drop, slice_get};
 ghost use Rattle.qpu_expr.specs.Stage.{turn_counted};
 ghost use Rattle.qpu_expr.specs.Leads.{Leads};
 ghost use Rattle.qpu_expr.specs.Expansion.{turns, closed, performed, taken, run_within};

@@ -2,7 +2,7 @@
 ghost use Rattle.std.specs.Prelude.{◌≡◌, ◌++◌, ◌∷◌, [], List, reverse, MatchOption, OnOk};
 ghost use Rattle.qpu_expr.specs.declared.expression.Frame.{Frame};
 ghost use Rattle.qpu_expr.specs.Operators.{Worth};
-ghost use Rattle.qpu_expr.specs.Expressions.{Reading, reading, taken, collapse, read_due, closed, passed, read_behind, stepped, ended, finished};
+ghost use Rattle.qpu_expr.specs.Expressions.{Reading, reading, taken, collapse, read_due, closed, passed, read_behind, stepped, finished};
 
 use crate::operator::{Operator, Worth, invert, negate};
 use crate::place::Place;

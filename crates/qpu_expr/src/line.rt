@@ -1,6 +1,6 @@
 //! The lines of a text, and what they begin with.
-ghost use Rattle.std.specs.Prelude.{◌≡◌, ◌≤◌, ◌++◌, ◌∷◌, [], length, fold, drop, IfOk, OnOk, option_map, MatchOption, IfSome, All, None, ◌+◌, ◌-◌, ◌^◌, ◌<◌};
-ghost use Rattle.qpu_expr.specs.Lines.{column_behind, moved_to, Lining, no_line, ends, lined, lines_of, colons, is_colon, label_of, behind_label, word_head, directive, head_of, nesting_of, nested, body_length};
+ghost use Rattle.std.specs.Prelude.{◌≡◌, ◌≤◌, ◌++◌, ◌∷◌, [], IfOk, OnOk, IfSome, None, ◌+◌, ◌^◌, ◌<◌};
+ghost use Rattle.qpu_expr.specs.Lines.{column_behind, moved_to, Lining, no_line, lined, lines_of, is_colon, label_of, behind_label, word_head, directive, head_of, nesting_of, nested, body_length};
 
 use crate::operand::{is_dot, is_name};
 use crate::register::is_text;

@@ -1,9 +1,8 @@
 //! Macros: their headings, their calls, and what replaces their parameters.
-ghost use Rattle.std.specs.Prelude.{◌≡◌, ◌≤◌, ◌++◌, ◌∷◌, [], length, take, fold, map, Some, None, true, IfOk, OnOk, option_map, option_copied, position};
-ghost use Rattle.std.specs.List.{flat_map, list_any};
+ghost use Rattle.std.specs.Prelude.{◌≡◌, ◌++◌, ◌∷◌, [], map, None, true, IfOk, OnOk, option_copied, position};
+ghost use Rattle.std.specs.List.{list_any};
 ghost use Rattle.std.specs.Option.{option_or};
 ghost use Rattle.qpu_expr.specs.Symbols.{is_named};
-ghost use Rattle.qpu_expr.specs.LineTokens.{LineTokens};
 ghost use Rattle.qpu_expr.specs.Macros.{is_comma, Names, no_name, named_on, names_of, heading_fault, repeated_in, Arguments, no_argument, empty_place, argued, arguments_read, arguments_of, argument_fault, argument_for, placed, replaced, line_replaced, body_replaced};
 
 use crate::line::Line;

@@ -1,6 +1,6 @@
 //! The operands of one instruction's parts.
-ghost use Rattle.std.specs.Prelude.{◌≡◌, ◌≤◌, ◌++◌, ◌∷◌, ◌&&◌, [], length, take, drop, fold, IfOk, OnOk, Some, None};
-ghost use Rattle.qpu_expr.specs.Operands.{is_name, is_dot, names, points, separates, begins_with_name, suffixes, core, left, number_of, named, operand_of, number_token, with_value, Worked, nothing_worked, put_tokens, noted, put_operand, put_first, put_piece, standing_behind, Working, nothing_read, turned, worked_on, all_worked, instruction};
+ghost use Rattle.std.specs.Prelude.{◌≡◌, ◌≤◌, ◌∷◌, ◌&&◌, [], length, IfOk, OnOk};
+ghost use Rattle.qpu_expr.specs.Operands.{is_name, is_dot, separates, begins_with_name, suffixes, core, number_of, named, operand_of, number_token, with_value, Worked, nothing_worked, put_tokens, noted, put_operand, put_first, put_piece, standing_behind, Working, nothing_read, turned, worked_on, all_worked, instruction};
 
 use crate::expression::Outcome;
 use crate::place::{Place, place_of};

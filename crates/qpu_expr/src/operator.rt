@@ -1,4 +1,4 @@
-ghost use Rattle.std.specs.Prelude.{◌≡◌, ◌≤◌};
+ghost use Rattle.std.specs.Prelude.{◌≡◌};
 ghost use Rattle.qpu_expr.specs.Operators.{level, applied, combined, negated, inverted};
 
 use crate::place::Place;

@@ -1,5 +1,5 @@
 //! What the lines of a text have led to.
-ghost use Rattle.std.specs.Prelude.{◌≡◌, ◌≤◌, ◌<◌, ◌^◌, ◌+◌, ◌-◌, ◌++◌, ◌∷◌, [], length, OnOk, IfOk, map, Some, None, true, slice_get, option_map, Ok, Err, if◌then◌else◌};
+ghost use Rattle.std.specs.Prelude.{◌≡◌, ◌<◌, ◌-◌, OnOk, IfOk, map, true, slice_get, option_map, Ok, Err, if◌then◌else◌};
 ghost use Rattle.qpu_token.specs.declared.fault.AsmKind.TheVariants.{TooLong};
 ghost use Rattle.qpu_expr.specs.declared.place.Place.{Place};
 ghost use Rattle.qpu_expr.specs.Symbols.{place_of, fault_at};
