@@ -4,3 +4,4 @@ pub mod OperandLemmas
 pub mod RoomLemmas
 pub mod RunLemmas
 pub mod TableLemmas
+pub mod OnlyTreeLaw

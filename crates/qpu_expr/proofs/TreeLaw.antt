@@ -31,7 +31,7 @@ pub record Reads (least : ℕ) (xs : List Item) (stack : List Frame) (v : Worth)
   pub runs : run xs (reading stack Due) ≡ reading top (There last)
   pub comes : (k : ℕ) → k ≤ least → k ≤ 5 → collapse k top last ≡ collapse k stack v
 
-level_small : (sign : Operator) → level sign ≤ 5
+pub level_small : (sign : Operator) → level sign ≤ 5
 level_small sign.Times = omega arith
 level_small sign.Over = omega arith
 level_small sign.Rest = omega arith
@@ -44,13 +44,13 @@ level_small sign.Xor = omega arith
 level_small sign.Or = omega arith
 
 -- a frame with a looser sign stays
-stays : (sign : Operator) (place : Place) (a : Worth) (stack : List Frame) → Waits (level sign + 1) (frame.Left a sign place ∷ stack)
+pub stays : (sign : Operator) (place : Place) (a : Worth) (stack : List Frame) → Waits (level sign + 1) (frame.Left a sign place ∷ stack)
 stays sign place a stack m v low high =
     let t : nat_lt (level sign) m ≡ true = grind (arith, nat_tests) in
     rw (collapse, taken, t) refl
 
 -- a frame with a sign at least as tight is taken
-goes : (sign : Operator) (place : Place) (a v : Worth) (stack : List Frame) (m : ℕ) → m ≤ level sign → collapse m (frame.Left a sign place ∷ stack) v ≡ collapse m stack (combined sign place a v)
+pub goes : (sign : Operator) (place : Place) (a v : Worth) (stack : List Frame) (m : ℕ) → m ≤ level sign → collapse m (frame.Left a sign place ∷ stack) v ≡ collapse m stack (combined sign place a v)
 goes sign place a v stack m low =
     let t : nat_lt (level sign) m ≡ false = grind (arith, nat_tests) in
     rw (collapse, taken, t) refl

@@ -53,3 +53,14 @@ Binds least (two sign place a b) = (least ≤ level sign) × Binds (level sign) 
 -- the items of a tree are an expression with its worth
 abbrev pub ReadsTrees : Type 0
 ReadsTrees = (tree : Tree) → Binds 0 tree → outcome_of (written tree) ≡ Whole (worth tree)
+
+-- some tree that needs no bracket writes items, and has a worth
+pub record IsTreeOf (items : List Item) (w : Worth) : Type 0 where
+  pub tree : Tree
+  pub binds : Binds 0 tree
+  pub written_is : written tree ≡ items
+  pub worth_is : worth tree ≡ w
+
+-- what is read as an expression is what some tree writes, with its worth
+abbrev pub ReadsOnlyTrees : Type 0
+ReadsOnlyTrees = (items : List Item) (w : Worth) → outcome_of items ≡ Whole w → IsTreeOf items w

@@ -4,7 +4,8 @@
 //! labels are judged, counted and taken out; what is left are plain lines, each of which gives one
 //! word, and the labels with the words behind them. `expand` answers exactly the lines and labels of
 //! the definition (specs/Expansion), or exactly its first fault. What trees of the grammar of
-//! expressions write is read with the worth of the tree (`reads_trees`).
+//! expressions write is read with the worth of the tree, and nothing else is (`reads_trees`,
+//! `reads_only_trees`).
 //!
 //! What a plain line means isn't told here, and its mnemonics aren't known: all pieces of a part that
 //! look like an expression are worked out, whatever the part begins with. The body of a macro is
@@ -34,7 +35,7 @@ mod table;
 mod whole;
 
 pub use expanded::{Expanded, LabelAt, PlainLine};
-pub use laws::reads_trees;
+pub use laws::{reads_only_trees, reads_trees};
 pub use whole::expand;
 
 #[cfg(test)]
