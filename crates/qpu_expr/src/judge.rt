@@ -1,0 +1,144 @@
+//! A line by itself: its fault, or what it does.
+ghost use Rattle.std.specs.Prelude.{◌≡◌, IfOk};
+ghost use Rattle.qpu_expr.specs.Leads.{Led};
+ghost use Rattle.qpu_expr.specs.Lines.{head_of};
+ghost use Rattle.qpu_expr.specs.Deeds.{deed_by, fault_in, least_fault, done_by, line_does, closing_deed, closes};
+
+use crate::call::text_deed;
+use crate::deed::{Act, Deed, Findings, NO_FINDINGS, behind_word, left_deed, stray_deed};
+use crate::directive::{macro_deed, repeat_deed, set_deed};
+use crate::line::{Head, Line, Pair, behind_label, head_of, label_of};
+use crate::place::{Place, fault_at, place_of};
+use crate::state::{Change, State};
+use crate::stop::Stop;
+use qpu_token::{AsmFault, AsmKind, Token};
+use std::alloc::{AllocError, Global};
+
+/// What a line does, by the tokens behind its label.
+fn deed_of(
+    alloc: Global,
+    text: &[u8],
+    state: &State,
+    deepest: bool,
+    end: Token,
+    line: &[Token],
+    behind: &[Line],
+) -> Result<Deed, AllocError>
+    ensures { IfOk result (λ deed. deed ≡ deed_by text.now state.now deepest end line.now behind.now (head_of text.now line.now)) }
+{
+    match head_of(text, line) {
+        Head::Nothing => Ok(Deed {
+            findings: NO_FINDINGS,
+            change: Change::Nothing,
+            act: Act::Nothing,
+        }),
+        Head::Set => set_deed(alloc, text, state.sets(), end, line),
+        Head::Opens(Pair::Repeat) => repeat_deed(
+            alloc,
+            text,
+            state.sets(),
+            deepest,
+            end,
+            line,
+            behind,
+        ),
+        Head::Opens(Pair::Macro) => macro_deed(alloc, text, state.macros(), end, line, behind),
+        Head::Closes(_) => Ok(stray_deed(end, line)),
+        Head::Other => left_deed(alloc, end, line),
+        Head::Instruction => text_deed(alloc, text, state, deepest, end, line),
+    }
+}
+
+/// A fault at a place, where there is one.
+fn fault_in(kind: AsmKind, place: Option<Place>) -> Option<AsmFault>
+    ensures { result ≡ fault_in kind place }
+{
+    match place {
+        Some(place) => Some(fault_at(kind, place)),
+        None => None,
+    }
+}
+
+/// The fault of a line.
+fn least_fault(label: Option<Place>, long: Option<Place>, f: Findings) -> Option<AsmFault>
+    ensures { result ≡ least_fault label long f }
+{
+    fault_in(AsmKind::UnknownName, f.unknown)
+        .or(fault_in(AsmKind::Twice, label.or(f.twice)))
+        .or(fault_in(AsmKind::TooDeep, f.deep))
+        .or(fault_in(AsmKind::TooLong, long))
+        .or(fault_in(AsmKind::DivideByZero, f.zero))
+        .or(fault_in(AsmKind::Shape, f.shape))
+        .or(fault_in(AsmKind::Range, f.range))
+}
+
+/// Does what a line does, unless it has a fault.
+#[tactic(auto, unfolding(crate::specs::Deeds::done_by))]
+fn do_deed(
+    alloc: Global,
+    text: &[u8],
+    line: &Line,
+    deed: Deed,
+    state: &mut State,
+) -> Result<Act, Stop>
+    ensures { Led (done_by text.now line.now deed state.old) state.new result }
+{
+    let label = label_of(text, &line.tokens);
+    let long = state.too_long(line, deed.change.leaves());
+    if let Some(fault) = least_fault(state.label_twice(text, label), long, deed.findings) {
+        return Err(Stop::Fault(fault));
+    }
+    state.count(line);
+    state.put_label(alloc, text, label)?;
+    state.change(alloc, text, deed.change)?;
+    Ok(deed.act)
+}
+
+/// Does what a line does by itself.
+#[tactic(auto, unfolding(crate::specs::Deeds::line_does))]
+pub(crate) fn take_line(
+    alloc: Global,
+    text: &[u8],
+    deepest: bool,
+    line: &Line,
+    behind: &[Line],
+    state: &mut State,
+) -> Result<Act, Stop>
+    ensures { Led (line_does text.now deepest line.now behind.now state.old) state.new result }
+{
+    let tokens = behind_label(text, &line.tokens);
+    let deed = deed_of(alloc, text, state, deepest, line.end, tokens, behind)?;
+    do_deed(alloc, text, line, deed, state)
+}
+
+/// The faults of the line that closes a body.
+fn closing_deed(line: &[Token]) -> Deed
+    ensures { result ≡ closing_deed line.now }
+{
+    let shape = match behind_word(line) {
+        [token, ..] => Some(place_of(*token)),
+        [] => None,
+    };
+    Deed {
+        findings: Findings {
+            shape,
+            ..NO_FINDINGS
+        },
+        change: Change::Nothing,
+        act: Act::Nothing,
+    }
+}
+
+/// Reaches the line that closes a body.
+#[tactic(auto, unfolding(crate::specs::Deeds::closes))]
+pub(crate) fn close_line(
+    alloc: Global,
+    text: &[u8],
+    line: &Line,
+    state: &mut State,
+) -> Result<Act, Stop>
+    ensures { Led (closes text.now line.now state.old) state.new result }
+{
+    let deed = closing_deed(behind_label(text, &line.tokens));
+    do_deed(alloc, text, line, deed, state)
+}
