@@ -4,9 +4,27 @@
 #![tactic(auto)]
 
 #[cfg(test)]
+mod asking;
+#[cfg(test)]
+mod cuts;
+#[cfg(test)]
 mod jobs;
 #[cfg(test)]
+mod jobs_memory;
+#[cfg(test)]
+mod jobs_twelve;
+#[cfg(test)]
+mod jobs_units;
+#[cfg(test)]
+mod jobs_vpm;
+#[cfg(test)]
+mod jobs_waits;
+#[cfg(test)]
+mod refusals;
+#[cfg(test)]
 mod rows;
+#[cfg(test)]
+mod runs;
 #[cfg(test)]
 mod shared;
 #[cfg(test)]

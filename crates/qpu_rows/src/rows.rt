@@ -1,60 +1,19 @@
+use crate::asking::{RUN, answered};
 use crate::jobs::{FIRST, FIRST_OUTPUT, SECOND, SECOND_OUTPUT, WITHOUT_END};
-use qpu_io::{MemSink, MemSource};
-use qpu_tool::{MOST_INPUT, Status, plain};
-use std::alloc::{AllocError, Global};
+use qpu_tool::{MOST_INPUT, Status};
 use std::test::Fail;
 
-/// Bytes that every output of these rows fits in.
-const ROOM: usize = 4096;
-
-/// What a call answered, and what its sink then held.
-#[derive(Drop)]
-struct Answer {
-    status: Status,
-    text: Vec<u8>,
-}
-
-/// The words of the run without workers.
-const RUN: [&str; 3] = ["run", "-w", "0"];
-
-/// The words as texts that are owned.
-fn owned(alloc: Global, words: &[&str]) -> Result<Vec<String>, AllocError> {
-    let mut all = Vec::new(alloc);
-    for word in words {
-        all.push(String::from_str(alloc, word)?)?;
-    }
-    Ok(all)
-}
-
-/// Carries the words out on the bytes, with reads and writes that fail at these calls.
-fn answered(
-    alloc: Global,
-    words: &[&str],
-    bytes: &[u8],
-    failing_reads: &[u64],
-    failing_writes: &[u64],
-) -> Result<Answer, AllocError> {
-    let bytes = Vec::from_slice(alloc, bytes)?;
-    let mut source = MemSource::new(alloc, bytes, Vec::from_slice(alloc, failing_reads)?);
-    let mut sink = MemSink::new(alloc, Vec::from_slice(alloc, failing_writes)?);
-    if sink.reserve(ROOM).is_err() {
-        return Err(AllocError);
-    }
-    let words = owned(alloc, words)?;
-    let status = plain(alloc, &words, &mut source, &mut sink);
-    Ok(Answer {
-        status,
-        text: Vec::from_slice(alloc, sink.bytes())?,
-    })
-}
-
 #[test]
-fn jobs_of_the_first_form_give_their_record_and_report(rt: HostRuntime) -> Result<(), Fail> {
+fn words_of_one_processor_give_their_record_and_report(rt: HostRuntime) -> Result<(), Fail> {
     let alloc = rt.alloc();
     let rows: [(&[u8], Status, &[u8]); 3] = [
         (FIRST, Status::Done, FIRST_OUTPUT),
         (SECOND, Status::Done, SECOND_OUTPUT),
-        (WITHOUT_END, Status::JobRefused, b"refused job NotBuilt\n"),
+        (
+            WITHOUT_END,
+            Status::JobRefused,
+            b"refused job Line at line 10\n",
+        ),
     ];
     for (job, status, text) in rows {
         let answer = answered(alloc, &RUN, job, &[], &[])?;
