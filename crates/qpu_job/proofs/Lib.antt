@@ -11,3 +11,4 @@ pub mod GrammarOnly
 pub mod GrammarFound
 pub mod CheckLemmas
 pub mod StartLemmas
+pub mod OneMachineLaw

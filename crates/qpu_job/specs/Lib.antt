@@ -9,3 +9,4 @@ pub mod ReadJob
 pub mod Programs
 pub mod Opening
 pub mod Grammar
+pub mod OneMachine

@@ -1,10 +1,18 @@
 //! Laws of what jobs are.
 
 ghost use Rattle.qpu_job.specs.Grammar.{ReadsJobsAlone, ReadsEveryJob};
+ghost use Rattle.qpu_job.specs.OneMachine.{CleanJobsAreAccepted};
 
 /// The texts that are read as jobs are exactly those of the grammar, each with the one plan that it
 /// asks for.
 pub fn reads_the_grammar()
     ensures alone { ReadsJobsAlone }
     ensures every { ReadsEveryJob }
+{}
+
+/// A law: a job whose programs are built, with all words in the profile and no path that breaks a
+/// hazard rule, is refused for none of its faults.
+#[tactic(auto, using(crate::proofs::OneMachineLaw::clean_jobs))]
+pub fn clean_jobs_are_accepted()
+    ensures { CleanJobsAreAccepted }
 {}
