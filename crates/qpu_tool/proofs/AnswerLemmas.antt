@@ -1,5 +1,5 @@
 -- What follows of the answer that was given.
-use Rattle.std.proofs.Common.{◌≡◌, ◌≢◌, ℕ, ◌<◌, ◌≤◌, ◌⊎◌, inl, inr, Bool, true, false, List, length, Option, Some, None, Ok, IsTrue, refl, ap, sym, subst, ◌∙◌, arith}
+use Rattle.std.proofs.Common.{◌≡◌, ◌≢◌, ℕ, ◌<◌, ◌≤◌, ◌⊎◌, inl, inr, Bool, true, false, List, length, Option, Some, None, Result, Ok, Err, IsTrue, refl, ap, sym, subst, ◌∙◌, arith}
 use Rattle.std.specs.Prelude.{IsSome, position}
 use Rattle.qpu_io.specs.Faults.{Rose}
 use Rattle.qpu_io.specs.Input.{Input, ReadsToEnd, ReadsPast, ReadsPart, ReadBreaks}
@@ -13,12 +13,13 @@ use Rattle.qpu_job.specs.declared.fault.JobFault.TheVariants as fault
 use Rattle.qpu_job.specs.Plan.{Plan}
 use Rattle.qpu_job.specs.Reading.{job_of, IsReadFault}
 use Rattle.qpu_job.specs.Opening.{IsMakeFault}
+use Rattle.qpu_job.proofs.OneMachineLaw.{clean_jobs}
 use Rattle.qpu_tool.specs.declared.status.Status.{Status}
 use Rattle.qpu_tool.specs.declared.status.Status.TheVariants.{Done, Usage, AsmRefused, JobRefused, HazardRefused, ReadFault, WriteFault, NoMemory, Stuck, RanOut, Faulted, RecordRefused, TooLong, NotAscii}
 use Rattle.qpu_tool.specs.declared.command.TheConstants.{MOST_INPUT}
 use Rattle.qpu_tool.specs.Statuses.{status_for}
 use Rattle.qpu_tool.specs.Refusals.{is_high, fault_status}
-use Rattle.qpu_tool.specs.Answers.{IsRun, Answer, AnswerTo, high, no_job, no_machine, ran, Due, wrong_words, broken, past, whole, Gives, Judged, answered, no_memory, Outcome, given, out_of_memory, Answered, PrintsRun, IsRefusedJob, by_line, by_program, IsRefusedProgram, IsOfText, IsOfRun, IsQuiet, NothingLeft, AnswersTo}
+use Rattle.qpu_tool.specs.Answers.{IsRun, Answer, AnswerTo, high, no_job, no_machine, ran, Due, wrong_words, broken, past, whole, Gives, Judged, answered, no_memory, Outcome, given, out_of_memory, Answered, PrintsRun, IsRefusedJob, by_line, by_program, IsRefusedProgram, IsAccepted, RunsIt, IsOfText, IsOfRun, IsQuiet, NothingLeft, AnswersTo}
 
 -- a test that is false isn't true
 pub not_both : (b : Bool) → b ≡ false → IsTrue b → ⊥
@@ -418,3 +419,30 @@ due_for words old new held held' status bytes (cut answer is cause part) run lef
 due_for words old new held held' status bytes (wanting is run' read same) run left quiet_in quiet_out = inl is
 due_for words old new held held' status bytes (gave_all answer is cause all) run left quiet_in quiet_out =
     due_by_cause words old new held held' status answer bytes cause is all run left quiet_in
+
+-- an accepted job is run
+
+no_place : (o : Option ℕ) (at : ℕ) → o ≡ None → o ≡ Some at → ⊥
+no_place o at p q = absurd (let f : None ≡ Some at = sym p ∙ q in cc)
+
+not_refused : (r : Result Plan JobFault) (plan : Plan) (e : JobFault) → r ≡ Ok plan → r ≡ Err e → ⊥
+not_refused r plan e p q = absurd (let f = sym p ∙ q in cc)
+
+same_plan : (r : Result Plan JobFault) (plan other : Plan) → r ≡ Ok plan → r ≡ Ok other → plan ≡ other
+same_plan r plan other p q = let f = sym p ∙ q in cc
+
+accepted_ran : (text : List ℕ) (answer : Answer) (held held' : Output) (status : Status) → IsAccepted text → AnswerTo text answer → status ≡ answer.status → held' ≡ appended held answer.text
+    → IsOfRun status × PrintsRun text held held' status
+accepted_ran text answer held held' status is (high at there) e all = absurd (no_place (position is_high text) at is.ascii there)
+accepted_ran text answer held held' status is (no_job f ascii fails kind none) e all = absurd (not_refused (job_of text) is.plan f is.is_job fails)
+accepted_ran text answer held held' status is (no_machine plan f ascii job fails none) e all =
+    absurd (clean_jobs is.plan is.codes f is.are_clean (subst (λ (p : Plan). IsMakeFault p f) (same_plan (job_of text) plan is.plan job is.is_job) fails) none)
+accepted_ran text answer held held' status is (ran plan s m ascii job run) e all =
+    let of : IsOfRun status = subst IsOfRun (sym e) (run_ends (ending_of m)) in
+    (of, run_of text answer held held' status (ran plan s m ascii job run) e all of)
+
+pub runs_accepted : (text : List ℕ) (held held' : Output) (status : Status) → length text ≤ MOST_INPUT → IsAccepted text → AnswersTo text held held' status → RunsIt text held held' status
+runs_accepted text held held' status short is (inl want) = inl want
+runs_accepted text held held' status short is (inr (inl long)) = absurd (omega (arith, short, long.1))
+runs_accepted text held held' status short is (inr (inr all)) =
+    inr (accepted_ran text all.1.answer held held' status is all.1.due all.1.status_is all.1.printed)

@@ -11,7 +11,7 @@ use Rattle.qpu_job.specs.declared.fault.JobFault.{JobFault}
 use Rattle.qpu_job.specs.declared.fault.JobFault.TheVariants as fault
 use Rattle.qpu_job.specs.Plan.{Plan}
 use Rattle.qpu_job.specs.Reading.{job_of, IsReadFault}
-use Rattle.qpu_job.specs.Opening.{IsMakeFault}
+use Rattle.qpu_job.specs.Opening.{AreClean, IsMakeFault}
 use Rattle.qpu_tool.specs.declared.status.Status.{Status}
 use Rattle.qpu_tool.specs.declared.status.Status.TheVariants.{Done, Usage, AsmRefused, JobRefused, HazardRefused, ReadFault, WriteFault, NoMemory, Stuck, RanOut, Faulted, RecordRefused, TooLong, NotAscii}
 use Rattle.qpu_tool.specs.declared.command.TheConstants.{MOST_INPUT}
@@ -133,6 +133,19 @@ pub record PrintsRun (job : List ℕ) (old new : Output) (status : Status) : Typ
   pub run : FaithfulRun plan schedule machine
   pub status_is : status ≡ status_for (ending_of machine)
   pub printed : new ≡ appended old (run_text job schedule machine)
+
+-- an accepted job: its bytes are ASCII, and its programs are words of the profile, no path of which
+-- breaks a hazard rule
+pub record IsAccepted (text : List ℕ) : Type 0 where
+  pub plan : Plan
+  pub codes : List (List ℕ)
+  pub ascii : position is_high text ≡ None
+  pub is_job : job_of text ≡ Ok plan
+  pub are_clean : AreClean plan codes
+
+-- a job was run to its end and its run printed, or memory was wanting
+abbrev pub RunsIt : List ℕ → Output → Output → Status → Type 0
+RunsIt job old new status = (status ≡ NoMemory) ⊎ (IsOfRun status × PrintsRun job old new status)
 
 -- why a job was refused: by a line of it, or by a program that isn't built
 pub data IsRefusedJob (text : List ℕ) : Type 0 where

@@ -1,8 +1,8 @@
 //! The command of a run without workers, from the words and the bytes of a job to the answer.
-ghost use Rattle.std.specs.Prelude.{◌≡◌, ◌<◌, ◌↔◌, ◌⊎◌, ℕ, List, Some, map, length, position, IsSome, IsTrue, string_bytes};
+ghost use Rattle.std.specs.Prelude.{◌≡◌, ◌<◌, ◌≤◌, ◌↔◌, ◌⊎◌, ℕ, List, Some, map, length, position, IsSome, IsTrue, string_bytes};
 ghost use Rattle.qpu_io.specs.Faults.{Rose};
 ghost use Rattle.qpu_tool.specs.Refusals.{is_high};
-ghost use Rattle.qpu_tool.specs.Answers.{IsRun, IsOfText, IsOfRun, IsQuiet, NothingLeft, PrintsRun, IsRefusedJob, IsRefusedProgram, Answered, AnswersTo, Gives, Outcome, usage, read_fault, too_long};
+ghost use Rattle.qpu_tool.specs.Answers.{IsRun, IsOfText, IsOfRun, IsQuiet, NothingLeft, PrintsRun, IsRefusedJob, IsRefusedProgram, IsAccepted, RunsIt, Answered, AnswersTo, Gives, Outcome, usage, read_fault, too_long};
 
 use crate::judging::judge;
 use crate::status::Status;
@@ -121,6 +121,9 @@ pub fn plain<S: Source, K: Sink>(
     ensures complete { (bytes : List ℕ) → IsRun (map string_bytes words.now) → (S.shown source.old).left ≡ Some bytes
         → IsQuiet (S.shown source.old).faults (S.shown source.new).faults → IsQuiet (K.shown sink.old).faults (K.shown sink.new).faults
         → AnswersTo bytes (K.shown sink.old) (K.shown sink.new) result }
+    ensures accepted { (bytes : List ℕ) → IsRun (map string_bytes words.now) → (S.shown source.old).left ≡ Some bytes → length bytes ≤ MOST_INPUT → IsAccepted bytes
+        → IsQuiet (S.shown source.old).faults (S.shown source.new).faults → IsQuiet (K.shown sink.old).faults (K.shown sink.new).faults
+        → RunsIt bytes (K.shown sink.old) (K.shown sink.new) result }
 {
     carried_out(alloc, words, source, sink)
 }
