@@ -1,0 +1,35 @@
+use Rattle.std.proofs.Common.{List, Ok, Err, subst}
+use Rattle.std.proofs.lemmas.Result.{err_from_is_err_and}
+use Rattle.qpu_machine.specs.declared.journal.Run.{Run}
+use Rattle.qpu_machine.specs.Journal.{steps_of}
+use Rattle.qpu_machine.specs.Schedule.{After}
+use Rattle.qpu_machine.proofs.RunLaw.{run_of}
+use Rattle.qpu_replay.specs.declared.fault.ReplayFault.TheVariants.{NotFinished}
+use Rattle.qpu_replay.specs.Replay.{IsFault}
+use Rattle.qpu_replay.proofs.AnswerLemmas.{one_answer}
+use Rattle.qpu_replay.proofs.replaying.replay.Goals as goal
+
+pub returns-in_err-take_all-clause-alone : goal.returns-in_err-take_all-clause-alone
+returns-in_err-take_all-clause-alone c =
+    let p = err_from_is_err_and c.from_residual.result c.from_residual.ensures.1 in
+    let fault = c.in_err-take_all.field-0.0 in
+    let says = subst (λ (runs : List Run). IsFault fault c.args.machine.now.state runs c.take_all.new.machine.state) c.runs.ensures.runs c.in_err-take_all.ensures.err in
+    rw (p.1, p.2) (λ answer m other. one_answer answer (Err fault) c.args.machine.now.state m c.take_all.new.machine.state c.args.journal.now other says)
+
+pub returns-in-Some-clause-alone : goal.returns-in-Some-clause-alone
+returns-in-Some-clause-alone c =
+    let after = subst (λ (runs : List Run). After c.args.machine.now.state (steps_of runs) c.take_all.new.machine.state) c.runs.ensures.runs c.in_ok-take_all.ensures.ok in
+    λ answer m other.
+    one_answer answer (Ok c.in-Some.ending) c.args.machine.now.state m c.take_all.new.machine.state c.args.journal.now other
+    (record { after = after; final = c.in-Some.ensures.still }, c.in-Some.ensures.ending)
+
+pub returns-in-Some-clause-run : goal.returns-in-Some-clause-run
+returns-in-Some-clause-run c = run_of c.keeps.ensures (rw (← c.runs.ensures.runs) c.in_ok-take_all.ensures.ok)
+
+pub returns-in-None-clause-alone : goal.returns-in-None-clause-alone
+returns-in-None-clause-alone c =
+    let after = subst (λ (runs : List Run). After c.args.machine.now.state (steps_of runs) c.take_all.new.machine.state) c.runs.ensures.runs c.in_ok-take_all.ensures.ok in
+    let moves = c.in-None.ensures.moves in
+    λ answer m other.
+    one_answer answer (Err NotFinished) c.args.machine.now.state m c.take_all.new.machine.state c.args.journal.now other
+    (record { after = after; actor = moves.0; moves = moves.1 })

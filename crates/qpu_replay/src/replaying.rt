@@ -1,0 +1,68 @@
+//! Taking the steps that a journal spells.
+ghost use Rattle.std.specs.Prelude.{◌≡◌, IfErr, IfSome, IsNone, OnOk, Result, replicate};
+ghost use Rattle.qpu_machine.specs.declared.conclusion.Ending.{Ending};
+ghost use Rattle.qpu_machine.specs.Gains.{IsRun};
+ghost use Rattle.qpu_machine.specs.Journal.{steps_of};
+ghost use Rattle.qpu_machine.specs.Machine.{MachineState};
+ghost use Rattle.qpu_machine.specs.Schedule.{After};
+ghost use Rattle.qpu_replay.specs.declared.fault.ReplayFault.{ReplayFault};
+ghost use Rattle.qpu_replay.specs.Replay.{IsFault, Replays, StopsIn};
+
+use crate::fault::ReplayFault;
+use qpu_machine::{Ending, Journal, Machine, Run};
+
+/// Takes the steps of a run, in order, up to the first that isn't enabled, and gives that one's
+/// number, counted from 1; none where all were taken.
+fn take_run(machine: &mut Machine, run: &Run) -> Option<u64>
+    ensures all { IsNone result → After machine.old.state (replicate run.now.count run.now.actor) machine.new.state }
+    ensures stops { IfSome result (λ step. StopsIn step run.now machine.old.state machine.new.state) }
+    ensures starts { machine.new.starts ≡ machine.old.starts }
+{
+    for taken in 0..run.count {
+        if !machine.step(run.actor) {
+            return Some(taken + 1);
+        }
+    }
+    None
+}
+
+/// Takes the steps of runs, in order, up to the first that isn't enabled.
+fn take_all(machine: &mut Machine, runs: &[Run]) -> Result<(), ReplayFault>
+    ensures ok { OnOk result (After machine.old.state (steps_of runs.now) machine.new.state) }
+    ensures err { IfErr result (λ fault. IsFault fault machine.old.state runs.now machine.new.state) }
+    ensures starts { machine.new.starts ≡ machine.old.starts }
+{
+    for i in 0..runs.len() {
+        if let Some(step) = take_run(machine, &runs[i]) {
+            return Err(ReplayFault::NotEnabled {
+                item: i as u64 + 1,
+                step,
+            });
+        }
+    }
+    Ok(())
+}
+
+/// Takes the steps that a journal spells, and says how the machine has come out. The answer is Ok
+/// exactly where they are a complete permitted schedule: each is enabled where it stands, and the
+/// machine is final after the last. `NotEnabled` tells the first step that isn't enabled; the machine
+/// is then the one before that step. `NotFinished` tells that all were taken and that something can
+/// still move; the machine is then the one after the last step. It takes no memory.
+///
+/// A permitted schedule is a run: it has no more steps than the machine had left, and the words that it
+/// executes go on the paths of their programs and break no rule. From a machine before any step its
+/// traces are paths and its length is bounded by the limit, by the laws `traces_are_paths` and
+/// `schedules_are_bounded` of qpu_machine.
+pub fn replay(machine: &mut Machine, journal: &Journal) -> Result<Ending, ReplayFault>
+    ensures answer { Replays result machine.old.state journal.now machine.new.state }
+    ensures alone { (answer : Result Ending ReplayFault) (m : MachineState) → Replays answer machine.old.state journal.now m → (answer ≡ result) × (m ≡ machine.new.state) }
+    ensures run { OnOk result (IsRun machine.old.state (steps_of journal.now) machine.new.state) }
+    ensures starts { machine.new.starts ≡ machine.old.starts }
+{
+    machine.keeps();
+    take_all(machine, journal.runs())?;
+    match machine.ending() {
+        Some(ending) => Ok(ending),
+        None => Err(ReplayFault::NotFinished),
+    }
+}

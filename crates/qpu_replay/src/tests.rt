@@ -1,0 +1,189 @@
+//! Journals by hand, and what they come to.
+ghost use Rattle.std.specs.Prelude.{◌≡◌, ◌+◌, ◌^◌, ◌<◌, ◌≤◌, OnOk};
+ghost use Rattle.qpu_machine.specs.Journal.{pushed, last_count};
+
+use crate::{ReplayFault, replay};
+use arrayvec::ArrayVec;
+use qpu_hazard::{Checked, Programs, check};
+use qpu_machine::{Actor, Ending, Journal, Machine, Start};
+use qpu_mem::Memory;
+use qpu_word::Word;
+use std::alloc::Global;
+use std::sync::Arc;
+use std::test::Fail;
+
+const NOP: Word = Word(0x100009e7009e7000);
+
+const END: Word = Word(0x300009e7009e7000);
+
+/// `ldi r0, 0x12345678`; program end.
+const FOUR: [Word; 4] = [Word(0xe002082712345678), END, NOP, NOP];
+
+/// `ldi vw_setup, 0xa0104000`, 64 rows; `ldi vw_addr, 0`; program end.
+const STORE: [Word; 5] = [
+    Word(0xe0021c67a0104000),
+    Word(0xe0021ca700000000),
+    END,
+    NOP,
+    NOP,
+];
+
+/// A journal of one run, what its replay answers, and how many instructions processor 0 has executed
+/// after it.
+struct Case {
+    name: &'static str,
+    actor: Actor,
+    count: u64,
+    answer: Result<Ending, ReplayFault>,
+    executed: u32,
+}
+
+/// Answers and counts are by hand: the program has four words, and processor 0 alone is started.
+static CASES: [Case; 7] = [
+    Case {
+        name: "the whole program",
+        actor: Actor::Exec(0),
+        count: 4,
+        answer: Ok(Ending::Done),
+        executed: 4,
+    },
+    Case {
+        name: "a step too few",
+        actor: Actor::Exec(0),
+        count: 3,
+        answer: Err(ReplayFault::NotFinished),
+        executed: 3,
+    },
+    Case {
+        name: "a step too many",
+        actor: Actor::Exec(0),
+        count: 5,
+        answer: Err(ReplayFault::NotEnabled { item: 1, step: 5 }),
+        executed: 4,
+    },
+    Case {
+        name: "the most steps that a run can have",
+        actor: Actor::Exec(0),
+        count: 18446744073709551615,
+        answer: Err(ReplayFault::NotEnabled { item: 1, step: 5 }),
+        executed: 4,
+    },
+    Case {
+        name: "a processor that wasn't started",
+        actor: Actor::Exec(3),
+        count: 1,
+        answer: Err(ReplayFault::NotEnabled { item: 1, step: 1 }),
+        executed: 0,
+    },
+    Case {
+        name: "a load that isn't pending",
+        actor: Actor::Load(0),
+        count: 1,
+        answer: Err(ReplayFault::NotEnabled { item: 1, step: 1 }),
+        executed: 0,
+    },
+    Case {
+        name: "a processor that no machine has",
+        actor: Actor::Exec(12),
+        count: 2,
+        answer: Err(ReplayFault::NotEnabled { item: 1, step: 1 }),
+        executed: 0,
+    },
+];
+
+/// A checked program.
+fn checked(alloc: Global, words: &[Word]) -> Result<Checked, Fail> {
+    if words.len() > 4096 {
+        return Err(Fail::from("too long a program"));
+    }
+    check(alloc, words).map_err(|_| Fail::from("the program is refused"))
+}
+
+/// A machine of processor 0, with 1,024 words of memory and 100 instructions.
+fn machine_of(alloc: Global, words: &[Word]) -> Result<Machine, Fail> {
+    let memory = Memory::new(alloc, 1024).map_err(|_| Fail::from("want of memory"))?;
+    let program = checked(alloc, words)?;
+    let list = vec![in alloc; program].map_err(|_| Fail::from("want of memory"))?;
+    let programs = Arc::new(alloc, Programs { list }).map_err(|_| Fail::from("want of memory"))?;
+    let mut starts = ArrayVec::new();
+    starts.push(Start {
+        q: 0,
+        program: 0,
+        uniforms: 0,
+    });
+    Ok(Machine::new(memory, 100, programs, starts))
+}
+
+fn push(journal: &mut Journal, actor: Actor, count: u64) -> Result<(), Fail>
+    requires some { 1 ≤ count }
+    requires fits { last_count journal.old actor + count < 2 ^ 64 }
+    ensures { OnOk result (journal.new ≡ pushed journal.old actor count) }
+{
+    match journal.push(actor, count) {
+        Ok(()) => Ok(()),
+        Err(_) => Err(Fail::from("want of memory")),
+    }
+}
+
+/// How many instructions processor 0 has executed.
+fn executed(machine: &Machine) -> Option<u32> {
+    machine.processor(0).map(|p| p.executed())
+}
+
+#[test]
+#[tactic(auto, unfolding(qpu_machine::specs::Journal::last_count))]
+fn journals_of_one_run_have_their_answers(rt: HostRuntime) -> Result<(), Fail> {
+    let alloc = rt.alloc();
+    for case in &CASES {
+        let name = case.name;
+        assert!(rt; case.count >= 1, "{name}");
+        let mut journal = Journal::new(alloc);
+        push(&mut journal, case.actor, case.count)?;
+        let mut machine = machine_of(alloc, &FOUR)?;
+        let answer = replay(&mut machine, &journal);
+        assert!(rt; answer == case.answer, "{name}: {answer:?}");
+        assert!(rt; executed(&machine) == Some(case.executed), "{name}");
+    }
+    Ok(())
+}
+
+#[test]
+fn a_journal_of_no_steps_moves_nothing(rt: HostRuntime) -> Result<(), Fail> {
+    let alloc = rt.alloc();
+    let mut machine = machine_of(alloc, &FOUR)?;
+    let answer = replay(&mut machine, &Journal::new(alloc));
+    assert!(rt; answer == Err(ReplayFault::NotFinished));
+    assert!(rt; executed(&machine) == Some(0));
+    Ok(())
+}
+
+/// The store moves once, before or after the program ends.
+#[test]
+#[tactic(auto, unfolding(qpu_machine::specs::Journal::pushed, qpu_machine::specs::Journal::last_count))]
+fn later_runs_are_counted(rt: HostRuntime) -> Result<(), Fail> {
+    let alloc = rt.alloc();
+    let mut first = Journal::new(alloc);
+    push(&mut first, Actor::Exec(0), 2)?;
+    push(&mut first, Actor::Store(0), 1)?;
+    push(&mut first, Actor::Exec(0), 3)?;
+    let mut machine = machine_of(alloc, &STORE)?;
+    assert!(rt; replay(&mut machine, &first) == Ok(Ending::Done));
+    let mut twice = Journal::new(alloc);
+    push(&mut twice, Actor::Exec(0), 1)?;
+    push(&mut twice, Actor::Exec(0), 1)?;
+    push(&mut twice, Actor::Store(0), 2)?;
+    let mut machine = machine_of(alloc, &STORE)?;
+    let answer = replay(&mut machine, &twice);
+    assert!(rt;
+        answer == Err(ReplayFault::NotEnabled { item: 2, step: 2 }),
+        "{answer:?}"
+    );
+    assert!(rt; executed(&machine) == Some(2));
+    let mut never = Journal::new(alloc);
+    push(&mut never, Actor::Exec(0), 5)?;
+    let mut machine = machine_of(alloc, &STORE)?;
+    let answer = replay(&mut machine, &never);
+    assert!(rt; answer == Err(ReplayFault::NotFinished), "{answer:?}");
+    assert!(rt; replay(&mut machine, &never) == Err(ReplayFault::NotEnabled { item: 1, step: 1 }));
+    Ok(())
+}
