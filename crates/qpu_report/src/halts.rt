@@ -36,11 +36,7 @@ fn fault_name(kind: FaultKind) -> &'static [u8]
 }
 
 /// Writes that a processor faulted, and at which place.
-pub(crate) fn put_fault<K: Sink>(
-    kind: FaultKind,
-    at: u32,
-    sink: &mut K,
-) -> Result<(), SinkFailed>
+pub(crate) fn put_fault<K: Sink>(kind: FaultKind, at: u32, sink: &mut K) -> Result<(), SinkFailed>
     ensures { Prints (K.shown sink.old) (K.shown sink.new)
         (joined (codes "faulted " ∷ fault_text kind ∷ codes " at " ∷ decimal at ∷ [])) result }
 {
@@ -68,12 +64,7 @@ fn put_awaits<K: Sink>(what: &[u8], place: u32, sink: &mut K) -> Result<(), Sink
 }
 
 /// Writes that a processor awaits a semaphore to go a way, and at which place.
-fn put_semaphore<K: Sink>(
-    n: u32,
-    way: &[u8],
-    place: u32,
-    sink: &mut K,
-) -> Result<(), SinkFailed>
+fn put_semaphore<K: Sink>(n: u32, way: &[u8], place: u32, sink: &mut K) -> Result<(), SinkFailed>
     ensures { Prints (K.shown sink.old) (K.shown sink.new)
         (joined (codes "awaits " ∷ (joined (codes "semaphore " ∷ decimal n ∷ way.now ∷ [])) ∷ codes " at " ∷ decimal place ∷ [])) result }
 {

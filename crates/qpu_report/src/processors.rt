@@ -166,4 +166,3 @@ fn put_accumulators<K: Sink>(p: &Processor, sink: &mut K) -> Result<(), SinkFail
     }
     Ok(())
 }
-
