@@ -1,0 +1,9 @@
+pub mod RuleLemmas
+pub mod PackLemmas
+pub mod TargetLemmas
+pub mod FormLemmas
+pub mod PlainLemmas
+pub mod UnitLemmas
+pub mod WordLaw
+pub mod UnitLaw
+pub mod OwnLemmas
