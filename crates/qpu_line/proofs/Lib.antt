@@ -7,3 +7,7 @@ pub mod UnitLemmas
 pub mod WordLaw
 pub mod UnitLaw
 pub mod OwnLemmas
+pub mod AgainLemmas
+pub mod BranchLaw
+pub mod SemaphoreLaw
+pub mod LoadLaw

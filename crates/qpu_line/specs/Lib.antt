@@ -6,3 +6,4 @@ pub mod Slots
 pub mod Units
 pub mod Instructions
 pub mod Canonical
+pub mod Worded

@@ -1,5 +1,5 @@
 -- VideoCore IV 3D Architecture Reference Guide, "QPU Instruction Encoding": semaphore words.
-use Rattle.std.specs.Prelude.{ℕ, ◌+◌, ◌*◌, ◌%◌, ◌^◌, ◌==◌, ◌<◌, if◌then◌else◌}
+use Rattle.std.specs.Prelude.{ℕ, ◌+◌, ◌*◌, ◌%◌, ◌^◌, ◌==◌, if◌then◌else◌}
 use Rattle.qpu_word.specs.declared.word.Fields.{Fields}
 use Rattle.qpu_word.specs.declared.code.TheConstants.{SIGNAL_LOAD_IMMEDIATE, KIND_SEMAPHORE, NOWHERE}
 use Rattle.qpu_line.specs.declared.semaphore.Semaphore.{Semaphore}
@@ -18,7 +18,3 @@ semaphore_low s = (if s.down then 16 else 0) + s.number % 16
 -- the canonical word of a semaphore instruction
 abbrev pub semaphore_word : Semaphore → ℕ
 semaphore_word s = semaphore_high * 2 ^ 32 + semaphore_low s
-
--- the semaphores are numbered from 0 to 15
-abbrev pub IsSemaphore : Semaphore → Type 0
-IsSemaphore s = s.number < 16

@@ -3,6 +3,11 @@
 ghost use Rattle.std.specs.Prelude.{◌≡◌, ◌<◌, ◌^◌, ℕ, Some};
 ghost use Rattle.qpu_line.specs.declared.instruction.Instruction.{Instruction};
 ghost use Rattle.qpu_line.specs.Instructions.{word_of};
+ghost use Rattle.qpu_line.specs.declared.branch.Branch.{Branch as BranchOf};
+ghost use Rattle.qpu_line.specs.declared.load.Load.{Load as LoadOf};
+ghost use Rattle.qpu_line.specs.declared.semaphore.Semaphore.{Semaphore as Step};
+ghost use Rattle.qpu_line.specs.declared.instruction.Instruction.TheVariants.{Branch, Load, Semaphore};
+ghost use Rattle.qpu_line.specs.Worded.{IsBranch, IsLoad, IsSemaphore};
 ghost use Rattle.qpu_line.specs.Canonical.{IsCanonical, canonical_instruction};
 
 /// A canonical word is the word of its instruction.
@@ -15,4 +20,22 @@ pub fn words_come_back()
 #[tactic(auto, using(crate::proofs::WordLaw::one_word))]
 pub fn one_instruction_has_one_word()
     ensures { (v w : ℕ) (i : Instruction) → v < 2 ^ 64 → w < 2 ^ 64 → canonical_instruction v ≡ Some i → canonical_instruction w ≡ Some i → v ≡ w }
+{}
+
+/// The word of a semaphore instruction is canonical and says that instruction.
+#[tactic(auto, using(crate::proofs::SemaphoreLaw::semaphores_again))]
+pub fn semaphores_come_back()
+    ensures { (s : Step) → IsSemaphore s → canonical_instruction (word_of (Semaphore s)) ≡ Some (Semaphore s) }
+{}
+
+/// The word of a load is canonical and says that load.
+#[tactic(auto, using(crate::proofs::LoadLaw::loads_again))]
+pub fn loads_come_back()
+    ensures { (l : LoadOf) → IsLoad l → canonical_instruction (word_of (Load l)) ≡ Some (Load l) }
+{}
+
+/// The word of a branch is canonical and says that branch.
+#[tactic(auto, using(crate::proofs::BranchLaw::branches_again))]
+pub fn branches_come_back()
+    ensures { (b : BranchOf) → IsBranch b → canonical_instruction (word_of (Branch b)) ≡ Some (Branch b) }
 {}
