@@ -11,3 +11,4 @@ pub mod AgainLemmas
 pub mod BranchLaw
 pub mod SemaphoreLaw
 pub mod LoadLaw
+pub mod BothLaw

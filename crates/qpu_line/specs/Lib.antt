@@ -7,3 +7,4 @@ pub mod Units
 pub mod Instructions
 pub mod Canonical
 pub mod Worded
+pub mod Both

@@ -6,7 +6,9 @@ ghost use Rattle.qpu_line.specs.Instructions.{word_of};
 ghost use Rattle.qpu_line.specs.declared.branch.Branch.{Branch as BranchOf};
 ghost use Rattle.qpu_line.specs.declared.load.Load.{Load as LoadOf};
 ghost use Rattle.qpu_line.specs.declared.semaphore.Semaphore.{Semaphore as Step};
-ghost use Rattle.qpu_line.specs.declared.instruction.Instruction.TheVariants.{Branch, Load, Semaphore};
+ghost use Rattle.qpu_line.specs.declared.instruction.Instruction.TheVariants.{Both, Branch, Load, Semaphore};
+ghost use Rattle.qpu_line.specs.declared.units.Units.{Units};
+ghost use Rattle.qpu_line.specs.Both.{IsBoth};
 ghost use Rattle.qpu_line.specs.Worded.{IsBranch, IsLoad, IsSemaphore};
 ghost use Rattle.qpu_line.specs.Canonical.{IsCanonical, canonical_instruction};
 
@@ -38,4 +40,11 @@ pub fn loads_come_back()
 #[tactic(auto, using(crate::proofs::BranchLaw::branches_again))]
 pub fn branches_come_back()
     ensures { (b : BranchOf) → IsBranch b → canonical_instruction (word_of (Branch b)) ≡ Some (Branch b) }
+{}
+
+/// Where the fields hold what an instruction of both units names, and its word is canonical, the
+/// word says that instruction.
+#[tactic(auto, using(crate::proofs::BothLaw::both_again))]
+pub fn units_come_back()
+    ensures { (u : Units) → IsBoth u → IsCanonical (word_of (Both u)) → canonical_instruction (word_of (Both u)) ≡ Some (Both u) }
 {}
