@@ -12,3 +12,4 @@ pub mod BranchLaw
 pub mod SemaphoreLaw
 pub mod LoadLaw
 pub mod BothLaw
+pub mod WordTrials

@@ -1,6 +1,6 @@
 //! Laws that tie canonical words and their instructions. Each is a function without a body; its
 //! clause is the law.
-ghost use Rattle.std.specs.Prelude.{◌≡◌, ◌<◌, ◌^◌, ℕ, Some};
+ghost use Rattle.std.specs.Prelude.{None, ◌≡◌, ◌<◌, ◌^◌, ℕ, Some};
 ghost use Rattle.qpu_line.specs.declared.instruction.Instruction.{Instruction};
 ghost use Rattle.qpu_line.specs.Instructions.{word_of};
 ghost use Rattle.qpu_line.specs.declared.branch.Branch.{Branch as BranchOf};
@@ -47,4 +47,11 @@ pub fn branches_come_back()
 #[tactic(auto, using(crate::proofs::BothLaw::both_again))]
 pub fn units_come_back()
     ensures { (u : Units) → IsBoth u → IsCanonical (word_of (Both u)) → canonical_instruction (word_of (Both u)) ≡ Some (Both u) }
+{}
+
+/// A word whose idle unit has a mux isn't canonical. The file of this law's proof computes worked
+/// words of every form, both ways.
+#[tactic(auto, using(crate::proofs::WordTrials::no_nop))]
+pub fn a_mux_of_an_idle_unit_is_refused()
+    ensures { canonical_instruction 0x100009e7009e7001 ≡ None }
 {}
