@@ -1,0 +1,15 @@
+pub mod RuleLemmas
+pub mod PackLemmas
+pub mod TargetLemmas
+pub mod FormLemmas
+pub mod PlainLemmas
+pub mod UnitLemmas
+pub mod WordLaw
+pub mod UnitLaw
+pub mod OwnLemmas
+pub mod AgainLemmas
+pub mod BranchLaw
+pub mod SemaphoreLaw
+pub mod LoadLaw
+pub mod BothLaw
+pub mod WordTrials

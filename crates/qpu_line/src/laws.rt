@@ -1,0 +1,57 @@
+//! Laws that tie canonical words and their instructions. Each is a function without a body; its
+//! clause is the law.
+ghost use Rattle.std.specs.Prelude.{None, ◌≡◌, ◌<◌, ◌^◌, ℕ, Some};
+ghost use Rattle.qpu_line.specs.declared.instruction.Instruction.{Instruction};
+ghost use Rattle.qpu_line.specs.Instructions.{word_of};
+ghost use Rattle.qpu_line.specs.declared.branch.Branch.{Branch as BranchOf};
+ghost use Rattle.qpu_line.specs.declared.load.Load.{Load as LoadOf};
+ghost use Rattle.qpu_line.specs.declared.semaphore.Semaphore.{Semaphore as Step};
+ghost use Rattle.qpu_line.specs.declared.instruction.Instruction.TheVariants.{Both, Branch, Load, Semaphore};
+ghost use Rattle.qpu_line.specs.declared.units.Units.{Units};
+ghost use Rattle.qpu_line.specs.Both.{IsBoth};
+ghost use Rattle.qpu_line.specs.Worded.{IsBranch, IsLoad, IsSemaphore};
+ghost use Rattle.qpu_line.specs.Canonical.{IsCanonical, canonical_instruction};
+
+/// A canonical word is the word of its instruction.
+#[tactic(auto, using(crate::proofs::WordLaw::word_back))]
+pub fn words_come_back()
+    ensures { (w : ℕ) (i : Instruction) → w < 2 ^ 64 → canonical_instruction w ≡ Some i → word_of i ≡ w }
+{}
+
+/// Two canonical words with one instruction are the same word.
+#[tactic(auto, using(crate::proofs::WordLaw::one_word))]
+pub fn one_instruction_has_one_word()
+    ensures { (v w : ℕ) (i : Instruction) → v < 2 ^ 64 → w < 2 ^ 64 → canonical_instruction v ≡ Some i → canonical_instruction w ≡ Some i → v ≡ w }
+{}
+
+/// The word of a semaphore instruction is canonical and says that instruction.
+#[tactic(auto, using(crate::proofs::SemaphoreLaw::semaphores_again))]
+pub fn semaphores_come_back()
+    ensures { (s : Step) → IsSemaphore s → canonical_instruction (word_of (Semaphore s)) ≡ Some (Semaphore s) }
+{}
+
+/// The word of a load is canonical and says that load.
+#[tactic(auto, using(crate::proofs::LoadLaw::loads_again))]
+pub fn loads_come_back()
+    ensures { (l : LoadOf) → IsLoad l → canonical_instruction (word_of (Load l)) ≡ Some (Load l) }
+{}
+
+/// The word of a branch is canonical and says that branch.
+#[tactic(auto, using(crate::proofs::BranchLaw::branches_again))]
+pub fn branches_come_back()
+    ensures { (b : BranchOf) → IsBranch b → canonical_instruction (word_of (Branch b)) ≡ Some (Branch b) }
+{}
+
+/// Where the fields hold what an instruction of both units names, and its word is canonical, the
+/// word says that instruction.
+#[tactic(auto, using(crate::proofs::BothLaw::both_again))]
+pub fn units_come_back()
+    ensures { (u : Units) → IsBoth u → IsCanonical (word_of (Both u)) → canonical_instruction (word_of (Both u)) ≡ Some (Both u) }
+{}
+
+/// A word whose idle unit has a mux isn't canonical. The file of this law's proof computes worked
+/// words of every form, both ways.
+#[tactic(auto, using(crate::proofs::WordTrials::no_nop))]
+pub fn a_mux_of_an_idle_unit_is_refused()
+    ensures { canonical_instruction 0x100009e7009e7001 ≡ None }
+{}

@@ -1,0 +1,34 @@
+//! Instructions between words and lines: what a word of the profile says, as types with the
+//! manual's names, and the one canonical word of each instruction.
+//!
+//! A word is canonical where no field of it says anything that has no effect, so a canonical word
+//! and its instruction tell the same. Here stand both directions and the laws that tie them. It
+//! knows no text: lines are written and read above.
+#![tactic(auto)]
+
+mod branch;
+mod canonical;
+mod instruction;
+mod laws;
+mod load;
+mod operand;
+mod part;
+mod semaphore;
+mod slots;
+mod target;
+mod units;
+
+pub use branch::Branch;
+pub use instruction::Instruction;
+pub use laws::{
+    a_mux_of_an_idle_unit_is_refused, branches_come_back, loads_come_back,
+    one_instruction_has_one_word, semaphores_come_back, units_come_back, words_come_back,
+};
+pub use load::{Load, LoadKind, Write};
+pub use operand::Operand;
+pub use part::Part;
+pub use semaphore::Semaphore;
+pub use units::{Signal, Units};
+
+#[cfg(test)]
+mod tests;

@@ -1,0 +1,61 @@
+//! Targets of writes: an address, with its file where that matters.
+ghost use Rattle.std.specs.Prelude.{◌≡◌, ◌==◌};
+ghost use Rattle.qpu_line.specs.Targets.{file_matters, target_of, address_of, in_file_a, in_file_b, is_row_a, exchange_of};
+
+use qpu_word::Place;
+use qpu_word::code::{ROWS, WRITE_DMA_ADDRESS, WRITE_R5, WRITE_VPM_SETUP};
+
+/// Whether a write address is another place in file A than in file B.
+pub(crate) fn file_matters(address: u32) -> bool
+    ensures { result ≡ file_matters address }
+{
+    address < ROWS
+        || address == WRITE_R5
+        || address == WRITE_VPM_SETUP
+        || address == WRITE_DMA_ADDRESS
+}
+
+/// The target of a write address of file A or B.
+#[tactic(auto, unfolding(crate::specs::Targets::target_of))]
+pub(crate) fn target_of(in_b: bool, address: u32) -> Place
+    ensures { result ≡ target_of in_b address }
+{
+    if file_matters(address) {
+        if in_b {
+            Place::FileB(address)
+        } else {
+            Place::FileA(address)
+        }
+    } else {
+        Place::Both(address)
+    }
+}
+
+/// The write address of a target.
+pub(crate) fn address_of(to: Place) -> u32
+    ensures { result ≡ address_of to }
+{
+    match to {
+        Place::Both(address) | Place::FileA(address) | Place::FileB(address) => address,
+    }
+}
+
+/// Whether a target is a row of file A.
+pub(crate) fn is_row_a(to: Place) -> bool
+    ensures { result ≡ is_row_a to }
+{
+    match to {
+        Place::FileA(address) => address < ROWS,
+        Place::Both(_) | Place::FileB(_) => false,
+    }
+}
+
+/// 1 where the units' files are exchanged, by the targets of the add and the mul unit.
+pub(crate) fn exchange_of(add: Place, mul: Place) -> u32
+    ensures { result ≡ exchange_of add mul }
+{
+    match (add, mul) {
+        (Place::FileB(_), _) | (_, Place::FileA(_)) => 1,
+        _ => 0,
+    }
+}
