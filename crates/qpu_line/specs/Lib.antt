@@ -8,3 +8,6 @@ pub mod Instructions
 pub mod Canonical
 pub mod Worded
 pub mod Both
+pub mod Spellings
+pub mod Names
+pub mod Lines

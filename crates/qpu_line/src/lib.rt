@@ -11,10 +11,13 @@ mod canonical;
 mod instruction;
 mod laws;
 mod load;
+mod name;
 mod operand;
 mod part;
 mod semaphore;
 mod slots;
+mod spellings;
+mod symbol;
 mod target;
 mod units;
 
@@ -25,9 +28,12 @@ pub use laws::{
     one_instruction_has_one_word, semaphores_come_back, units_come_back, words_come_back,
 };
 pub use load::{Load, LoadKind, Write};
+pub use name::{Name, Register};
 pub use operand::Operand;
 pub use part::Part;
 pub use semaphore::Semaphore;
+pub use spellings::spelling;
+pub use symbol::Symbol;
 pub use units::{Signal, Units};
 
 #[cfg(test)]
