@@ -1,0 +1,10 @@
+pub mod Placed
+pub mod Roles
+pub mod Expressions
+pub mod Reading
+pub mod Pieces
+pub mod Parts
+pub mod Orders
+pub mod SectionTokens
+pub mod PartsRead
+pub mod Sections

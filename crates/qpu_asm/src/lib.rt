@@ -1,0 +1,10 @@
+//! The assembler's last stage, and the assembler whole.
+#![tactic(auto)]
+
+mod expression;
+mod order;
+mod part;
+mod piece;
+mod placed;
+mod roles;
+mod section;
