@@ -8,3 +8,4 @@ pub mod Orders
 pub mod SectionTokens
 pub mod PartsRead
 pub mod Sections
+pub mod Marks

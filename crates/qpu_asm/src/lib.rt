@@ -2,6 +2,8 @@
 #![tactic(auto)]
 
 mod expression;
+mod mark;
+mod marking;
 mod order;
 mod part;
 mod piece;

@@ -34,6 +34,7 @@ pub use part::Part;
 pub use semaphore::Semaphore;
 pub use spellings::spelling;
 pub use symbol::Symbol;
+pub use target::{address_of, is_row_a};
 pub use units::{Signal, Units};
 
 #[cfg(test)]

@@ -32,7 +32,7 @@ pub(crate) fn target_of(in_b: bool, address: u32) -> Place
 }
 
 /// The write address of a target.
-pub(crate) fn address_of(to: Place) -> u32
+pub fn address_of(to: Place) -> u32
     ensures { result ≡ address_of to }
 {
     match to {
@@ -41,7 +41,7 @@ pub(crate) fn address_of(to: Place) -> u32
 }
 
 /// Whether a target is a row of file A.
-pub(crate) fn is_row_a(to: Place) -> bool
+pub fn is_row_a(to: Place) -> bool
     ensures { result ≡ is_row_a to }
 {
     match to {
