@@ -9,3 +9,5 @@ pub mod SectionTokens
 pub mod PartsRead
 pub mod Sections
 pub mod Marks
+pub mod Judging
+pub mod Meanings

@@ -2,8 +2,10 @@
 #![tactic(auto)]
 
 mod expression;
+mod judge;
 mod mark;
 mod marking;
+mod meaning;
 mod order;
 mod part;
 mod piece;

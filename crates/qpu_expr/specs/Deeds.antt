@@ -1,5 +1,5 @@
 -- What one line does by itself: its faults, what it changes, and what is run behind it. This project's own.
-use Rattle.std.specs.Prelude.{ℕ, Bool, List, [], ◌∷◌, drop, Option, Some, None, option_map, Result, Ok, Err}
+use Rattle.std.specs.Prelude.{ℕ, Bool, List, [], ◌∷◌, drop, Option, Some, None, option_map, Result, Ok, Err, if◌then◌else◌}
 use Rattle.std.specs.Option.{option_or}
 use Rattle.qpu_token.specs.declared.token.Token.{Token}
 use Rattle.qpu_token.specs.declared.fault.AsmFault.{AsmFault}
@@ -16,22 +16,28 @@ use Rattle.qpu_expr.specs.declared.deed.Findings.{Findings}
 use Rattle.qpu_expr.specs.declared.deed.Deed.{Deed}
 use Rattle.qpu_expr.specs.Symbols.{place_of, fault_at}
 use Rattle.qpu_expr.specs.LineTokens.{LineTokens}
-use Rattle.qpu_expr.specs.Lines.{label_of, behind_label, head_of}
+use Rattle.qpu_expr.specs.Lines.{label_of, behind_label, head_of, is_colon}
 use Rattle.qpu_expr.specs.StageParts.{Stage}
 use Rattle.qpu_expr.specs.Stage.{too_long, counted, labelled, leaves, changed, label_twice}
 use Rattle.qpu_expr.specs.Findings.{no_findings, left_deed}
 use Rattle.qpu_expr.specs.Directives.{set_deed, repeat_deed, macro_deed, stray_deed}
 use Rattle.qpu_expr.specs.Calls.{text_deed}
 
+-- a line that is left as it is, behind its label. A second label isn't due: its line is left with the
+-- first one, so that the token that isn't due can be told
+abbrev pub left_tokens : List ℕ → List Token → List Token → List Token
+left_tokens text whole [] = []
+left_tokens text whole (first ∷ rest) = if is_colon text first then whole else first ∷ rest
+
 -- what a line does, by what it begins with behind its label
-abbrev pub deed_by : List ℕ → Stage → Bool → Token → List Token → List LineTokens → Head → Deed
-deed_by text s deepest end line behind head.Nothing = record { findings = no_findings; change = change.Nothing; act = act.Nothing }
-deed_by text s deepest end line behind head.Set = set_deed text s.sets end line
-deed_by text s deepest end line behind (head.Opens Repeat) = repeat_deed text s.sets deepest end line behind
-deed_by text s deepest end line behind (head.Opens Macro) = macro_deed text s.macros end line behind
-deed_by text s deepest end line behind (head.Closes pair) = stray_deed end line
-deed_by text s deepest end line behind head.Other = left_deed end line
-deed_by text s deepest end line behind head.Instruction = text_deed text s deepest end line
+abbrev pub deed_by : List ℕ → Stage → Bool → Token → List Token → List Token → List LineTokens → Head → Deed
+deed_by text s deepest end whole line behind head.Nothing = record { findings = no_findings; change = change.Nothing; act = act.Nothing }
+deed_by text s deepest end whole line behind head.Set = set_deed text s.sets end line
+deed_by text s deepest end whole line behind (head.Opens Repeat) = repeat_deed text s.sets deepest end line behind
+deed_by text s deepest end whole line behind (head.Opens Macro) = macro_deed text s.macros end line behind
+deed_by text s deepest end whole line behind (head.Closes pair) = stray_deed end line
+deed_by text s deepest end whole line behind head.Other = left_deed end (left_tokens text whole line)
+deed_by text s deepest end whole line behind head.Instruction = text_deed text s deepest end line
 
 infixl 10 ◌or◌
 abbrev pub ◌or◌ : Option AsmFault → Option AsmFault → Option AsmFault
@@ -62,7 +68,7 @@ done_by text line d s = by_fault (least_fault (label_twice text s.labels (label_
 unfoldable pub line_does : List ℕ → Bool → LineTokens → List LineTokens → Stage → Result (Act × Stage) AsmFault
 line_does text deepest line behind s =
     let rest = behind_label text line.tokens in
-    done_by text line (deed_by text s deepest line.end rest behind (head_of text rest)) s
+    done_by text line (deed_by text s deepest line.end line.tokens rest behind (head_of text rest)) s
 
 -- the line that closes a body: nothing stands behind its word
 abbrev pub closing_deed : List Token → Deed

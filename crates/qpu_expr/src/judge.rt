@@ -1,18 +1,28 @@
 //! A line by itself: its fault, or what it does.
 ghost use Rattle.std.specs.Prelude.{◌≡◌, IfOk};
 ghost use Rattle.qpu_expr.specs.Leads.{Led};
-ghost use Rattle.qpu_expr.specs.Lines.{head_of};
-ghost use Rattle.qpu_expr.specs.Deeds.{deed_by, fault_in, least_fault, done_by, line_does, closing_deed, closes};
+ghost use Rattle.qpu_expr.specs.Lines.{behind_label, head_of};
+ghost use Rattle.qpu_expr.specs.Deeds.{left_tokens, deed_by, fault_in, least_fault, done_by, line_does, closing_deed, closes};
 
 use crate::call::text_deed;
 use crate::deed::{Act, Deed, Findings, NO_FINDINGS, behind_word, left_deed, stray_deed};
 use crate::directive::{macro_deed, repeat_deed, set_deed};
-use crate::line::{Head, Line, Pair, behind_label, head_of, label_of};
+use crate::line::{Head, Line, Pair, behind_label, head_of, is_colon, label_of};
 use crate::place::{Place, fault_at, place_of};
 use crate::state::{Change, State};
 use crate::stop::Stop;
 use qpu_token::{AsmFault, AsmKind, Token};
 use std::alloc::{AllocError, Global};
+
+/// The tokens of a line that is left, behind its label; with it where a second one follows.
+fn left_tokens<'a>(text: &[u8], whole: &'a [Token], line: &'a [Token]) -> &'a [Token]
+    ensures { result.now ≡ left_tokens text.now whole.now line.now }
+{
+    match line {
+        [first, ..] if is_colon(text, *first) => whole,
+        _ => line,
+    }
+}
 
 /// What a line does, by the tokens behind its label.
 fn deed_of(
@@ -20,12 +30,14 @@ fn deed_of(
     text: &[u8],
     state: &State,
     deepest: bool,
-    end: Token,
-    line: &[Token],
+    line: &Line,
     behind: &[Line],
 ) -> Result<Deed, AllocError>
-    ensures { IfOk result (λ deed. deed ≡ deed_by text.now state.now deepest end line.now behind.now (head_of text.now line.now)) }
+    ensures { IfOk result (λ deed. deed ≡ deed_by text.now state.now deepest line.now.end line.now.tokens (behind_label text.now line.now.tokens) behind.now (head_of text.now (behind_label text.now line.now.tokens))) }
 {
+    let end = line.end;
+    let whole: &[Token] = &line.tokens;
+    let line = behind_label(text, whole);
     match head_of(text, line) {
         Head::Nothing => Ok(Deed {
             findings: NO_FINDINGS,
@@ -44,7 +56,7 @@ fn deed_of(
         ),
         Head::Opens(Pair::Macro) => macro_deed(alloc, text, state.macros(), end, line, behind),
         Head::Closes(_) => Ok(stray_deed(end, line)),
-        Head::Other => left_deed(alloc, end, line),
+        Head::Other => left_deed(alloc, end, left_tokens(text, whole, line)),
         Head::Instruction => text_deed(alloc, text, state, deepest, end, line),
     }
 }
@@ -106,8 +118,7 @@ pub(crate) fn take_line(
 ) -> Result<Act, Stop>
     ensures { Led (line_does text.now deepest line.now behind.now state.old) state.new result }
 {
-    let tokens = behind_label(text, &line.tokens);
-    let deed = deed_of(alloc, text, state, deepest, line.end, tokens, behind)?;
+    let deed = deed_of(alloc, text, state, deepest, line, behind)?;
     do_deed(alloc, text, line, deed, state)
 }
 

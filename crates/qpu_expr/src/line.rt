@@ -156,7 +156,7 @@ pub(crate) fn lines_of(
 }
 
 /// Whether a token is a sign `:`.
-fn is_colon(text: &[u8], token: Token) -> bool
+pub(crate) fn is_colon(text: &[u8], token: Token) -> bool
     ensures { result ≡ is_colon text.now token }
 {
     matches!(symbol_of(text, token), Symbol::Sign(Sign::Colon))

@@ -10,7 +10,7 @@ use std::marker::Model;
 /// Values, each under a name, in the order in which they were put. Contracts see the list of the names
 /// with their values.
 #[derive(Drop)]
-pub(crate) struct Table<V: Drop> {
+pub struct Table<V: Drop> {
     entries: IndexMap<Vec<u8>, V>,
 }
 
@@ -24,7 +24,7 @@ impl<V: Drop> Model for Table<V> {
 
 impl<V: Drop> Table<V> {
     /// No value.
-    pub(crate) fn new(alloc: Global) -> Table<V>
+    pub fn new(alloc: Global) -> Table<V>
         ensures { result ≡ [] }
     {
         Table {
@@ -33,14 +33,14 @@ impl<V: Drop> Table<V> {
     }
 
     /// The value under a name.
-    pub(crate) fn get(&self, name: &[u8]) -> Option<&V>
+    pub fn get(&self, name: &[u8]) -> Option<&V>
         ensures { option_copied result ≡ found name.now self.now }
     {
         self.entries.get(name)
     }
 
     /// Puts a value under a name.
-    pub(crate) fn put(&mut self, alloc: Global, name: &[u8], value: V) -> Result<(), AllocError>
+    pub fn put(&mut self, alloc: Global, name: &[u8], value: V) -> Result<(), AllocError>
         ensures { OnOk result (self.new ≡ put_in name.now value self.old) }
     {
         let name = Vec::from_slice(alloc, name)?;
@@ -49,7 +49,7 @@ impl<V: Drop> Table<V> {
     }
 
     /// The values, in order.
-    pub(crate) fn into_values(self, alloc: Global) -> Result<Vec<V>, AllocError>
+    pub fn into_values(self, alloc: Global) -> Result<Vec<V>, AllocError>
         ensures { IfOk result (λ values. values.items ≡ map (λ e. e.1) self) }
     {
         all_values(alloc, self.entries)

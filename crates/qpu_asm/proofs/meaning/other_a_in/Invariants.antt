@@ -1,0 +1,6 @@
+use Rattle.std.proofs.Common.{◌≡◌, drop}
+use Rattle.qpu_asm.specs.Meanings.{first_told, other_a_part}
+use Rattle.qpu_asm.proofs.meaning.other_a_in.Given as goal
+
+abbrev pub invariant-loop-part : goal.invariant-loop-part
+invariant-loop-part l = first_told other_a_part (drop l.part-index l.later) ≡ first_told other_a_part l.later
