@@ -11,3 +11,5 @@ pub mod Sections
 pub mod Marks
 pub mod Judging
 pub mod Meanings
+pub mod Answers
+pub mod LinesRead

@@ -3,6 +3,7 @@
 
 mod expression;
 mod judge;
+mod line;
 mod mark;
 mod marking;
 mod meaning;
@@ -12,3 +13,4 @@ mod piece;
 mod placed;
 mod roles;
 mod section;
+mod stop;

@@ -90,12 +90,7 @@ impl Marks {
     }
 
     /// Puts a mark where something holds.
-    pub(crate) fn put_if(
-        &mut self,
-        holds: bool,
-        what: What,
-        token: Token,
-    ) -> Result<(), AllocError>
+    pub(crate) fn put_if(&mut self, holds: bool, what: What, token: Token) -> Result<(), AllocError>
         ensures { OnOk result (self.new ≡ mark_if holds what token self.old) }
     {
         if holds {

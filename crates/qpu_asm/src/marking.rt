@@ -178,8 +178,11 @@ impl Marks {
     {
         match suffix {
             None => Ok(()),
-            Some(s) if has_condition(first) && is_set_flags(s.name) =>
-                self.put_if(mul, What::MulSets, s.dot),
+            Some(s) if has_condition(first) && is_set_flags(s.name) => self.put_if(
+                mul,
+                What::MulSets,
+                s.dot,
+            ),
             Some(s) => self.put(What::Wrong, s.dot),
         }
     }
@@ -429,8 +432,11 @@ impl Marks {
             Part::Unit(unit) => self.put_unit(mul, unit),
             Part::Load(load) => self.put_load(load),
             Part::Also(also) => self.put_also(also),
-            Part::Increment(number) | Part::Decrement(number) =>
-                self.put_number_between(0, LAST_SEMAPHORE, number),
+            Part::Increment(number) | Part::Decrement(number) => self.put_number_between(
+                0,
+                LAST_SEMAPHORE,
+                number,
+            ),
             Part::Branch(branch) => self.put_branch(branch),
             Part::Link(to) => self.put_place(if_link(somewhere(to.core)), to.token),
             Part::Row(row) => self.put_if(!is_row_name(row.core), What::Wrong, row.token),

@@ -32,10 +32,12 @@ fn condition_in(suffix: Option<Suffix>) -> u32
     ensures { result ≡ condition_in suffix }
 {
     match suffix {
-        Some(Suffix {
-            name: Some(Name::Condition(code)),
-            ..
-        }) => code,
+        Some(
+            Suffix {
+                name: Some(Name::Condition(code)),
+                ..
+            },
+        ) => code,
         _ => ALWAYS,
     }
 }
@@ -45,10 +47,12 @@ fn branch_condition_in(suffix: Option<Suffix>) -> u32
     ensures { result ≡ branch_condition_in suffix }
 {
     match suffix {
-        Some(Suffix {
-            name: Some(Name::BranchCondition(code)),
-            ..
-        }) => code,
+        Some(
+            Suffix {
+                name: Some(Name::BranchCondition(code)),
+                ..
+            },
+        ) => code,
         _ => BRANCH_ALWAYS,
     }
 }
@@ -75,9 +79,12 @@ fn pack_in(suffix: Option<Suffix>) -> u32
     ensures { result ≡ pack_in suffix }
 {
     match suffix {
-        Some(Suffix {
-            name: Some(name), ..
-        }) => pack_of(name).unwrap_or(0),
+        Some(
+            Suffix {
+                name: Some(name),
+                ..
+            },
+        ) => pack_of(name).unwrap_or(0),
         _ => 0,
     }
 }

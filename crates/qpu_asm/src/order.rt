@@ -130,8 +130,7 @@ fn extra(later: &[Part], name: Name) -> bool
 {
     match name {
         Name::End | Name::Load0 | Name::Load1 => !has_signal(later),
-        Name::Rotate =>
-            has_unit(later) && !has_rotation(later),
+        Name::Rotate => has_unit(later) && !has_rotation(later),
         Name::ReadA => !has_read_a(later),
         Name::ReadB => !has_read_b(later),
         _ => false,
@@ -158,9 +157,8 @@ fn branch_follows(branch: BranchPart, later: &[Part], name: Name) -> bool
 {
     match name {
         Name::Link => !has_link(later),
-        Name::Row =>
-            !has_row(later)
-                && !matches!(branch.target.core, Core::Name(_) | Core::Unknown),
+        Name::Row => !has_row(later)
+            && !matches!(branch.target.core, Core::Name(_) | Core::Unknown),
         _ => false,
     }
 }

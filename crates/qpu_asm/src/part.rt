@@ -134,7 +134,7 @@ fn two_operands(end: Token, xs: &[Placed]) -> Result<(Piece, Piece), Token>
 }
 
 /// What is read, where nothing is left behind it.
-fn ended<A: Copy>(read: A, xs: &[Placed]) -> Result<A, Token>
+pub(crate) fn ended<A: Copy>(read: A, xs: &[Placed]) -> Result<A, Token>
     ensures { result ≡ ended read xs.now }
 {
     match xs {

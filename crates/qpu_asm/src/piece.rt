@@ -99,7 +99,7 @@ fn alone(symbol: Symbol) -> Option<Core>
 }
 
 /// What a name is that is a piece by itself.
-fn name_alone(symbol: Symbol) -> Option<Core>
+pub(crate) fn name_alone(symbol: Symbol) -> Option<Core>
     ensures { result ≡ name_alone symbol }
 {
     match symbol {

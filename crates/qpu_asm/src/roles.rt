@@ -85,8 +85,9 @@ pub(crate) fn target_of(name: Name) -> Option<Place>
     ensures { result ≡ target_of name }
 {
     match name {
-        Name::Register(Register::Accumulator(n)) if n < WRITTEN_ACCUMULATORS =>
-            Some(Place::Both(WRITE_R0 + n)),
+        Name::Register(Register::Accumulator(n)) if n < WRITTEN_ACCUMULATORS => Some(Place::Both(
+            WRITE_R0 + n,
+        )),
         Name::Register(Register::RowA(n)) => Some(Place::FileA(n)),
         Name::Register(Register::RowB(n)) => Some(Place::FileB(n)),
         Name::Register(Register::Vpm) => Some(Place::Both(WRITE_VPM)),
