@@ -13,3 +13,9 @@ pub mod SemaphoreLaw
 pub mod LoadLaw
 pub mod BothLaw
 pub mod WordTrials
+pub mod SaidLemmas
+pub mod SourceLemmas
+pub mod NamedLemmas
+pub mod TestLemmas
+pub mod SignalLemmas
+pub mod NamedLaw

@@ -34,7 +34,7 @@ unfolding mul_rule
 mul_tidy f rule unit = tidy_by (is_unit_word f) f.op_mul f.cond_mul f.waddr_mul f.mul_a f.mul_b rule unit
 
 -- active and idle
-active_by : (unit a b : Bool) → unit ≡ true → (unit && not a && not b) ≡ not (a || b)
+pub active_by : (unit a b : Bool) → unit ≡ true → (unit && not a && not b) ≡ not (a || b)
 active_by true true b is = refl
 active_by true false b is = refl
 active_by false a b is = absurd (grind (arith, is))
@@ -54,7 +54,7 @@ unary_twice : (f : Fields) → operand_rule f ≡ true → (not (add_active f &&
 unfolding operand_rule
 unary_twice f rule = right_of (f.pm == 0) (not (add_active f && is_unary f.op_add) || (f.add_b == f.add_a)) rule
 
-uses_same : (f : Fields) (m : ℕ) → is_unit_word f ≡ true → operand_rule f ≡ true → uses f m ≡ any_uses (unit_fields f) m
+pub uses_same : (f : Fields) (m : ℕ) → is_unit_word f ≡ true → operand_rule f ≡ true → uses f m ≡ any_uses (unit_fields f) m
 uses_same f m unit rule =
     rw (add_uses_by (add_active f) (is_unary f.op_add) f.add_a f.add_b m (unary_twice f rule))
     (rw (active_by (is_unit_word f) (f.op_add == 0) (f.cond_add == 0) unit, active_by (is_unit_word f) (f.op_mul == 0) (f.cond_mul == 0) unit) refl)

@@ -8,3 +8,4 @@ pub mod Instructions
 pub mod Canonical
 pub mod Worded
 pub mod Both
+pub mod Named

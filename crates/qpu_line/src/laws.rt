@@ -9,6 +9,7 @@ ghost use Rattle.qpu_line.specs.declared.semaphore.Semaphore.{Semaphore as Step}
 ghost use Rattle.qpu_line.specs.declared.instruction.Instruction.TheVariants.{Both, Branch, Load, Semaphore};
 ghost use Rattle.qpu_line.specs.declared.units.Units.{Units};
 ghost use Rattle.qpu_line.specs.Both.{IsBoth};
+ghost use Rattle.qpu_line.specs.Named.{IsNamed};
 ghost use Rattle.qpu_line.specs.Worded.{IsBranch, IsLoad, IsSemaphore};
 ghost use Rattle.qpu_line.specs.Canonical.{IsCanonical, canonical_instruction};
 
@@ -42,11 +43,16 @@ pub fn branches_come_back()
     ensures { (b : BranchOf) → IsBranch b → canonical_instruction (word_of (Branch b)) ≡ Some (Branch b) }
 {}
 
-/// Where the fields hold what an instruction of both units names, and its word is canonical, the
-/// word says that instruction.
-#[tactic(auto, using(crate::proofs::BothLaw::both_again))]
+/// An instruction of both units whose parts a line can name, and whose names go into the fields of
+/// one word, has a canonical word.
+pub fn units_are_canonical()
+    ensures { (u : Units) → IsBoth u → IsNamed u → IsCanonical (word_of (Both u)) }
+{}
+
+/// The word of such an instruction says that instruction.
+#[tactic(auto, using(crate::proofs::NamedLaw::named_again))]
 pub fn units_come_back()
-    ensures { (u : Units) → IsBoth u → IsCanonical (word_of (Both u)) → canonical_instruction (word_of (Both u)) ≡ Some (Both u) }
+    ensures { (u : Units) → IsBoth u → IsNamed u → canonical_instruction (word_of (Both u)) ≡ Some (Both u) }
 {}
 
 /// A word whose idle unit has a mux isn't canonical. The file of this law's proof computes worked
