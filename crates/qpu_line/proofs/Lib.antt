@@ -19,3 +19,8 @@ pub mod NamedLemmas
 pub mod TestLemmas
 pub mod SignalLemmas
 pub mod NamedLaw
+pub mod KeptLemmas
+pub mod SayLemmas
+pub mod HeldLemmas
+pub mod PlainNames
+pub mod EachLaw

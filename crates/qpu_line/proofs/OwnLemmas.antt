@@ -50,7 +50,7 @@ right_of : (a b : Bool) → (a && b) ≡ true → b ≡ true
 right_of true b both = both
 right_of false b both = absurd (grind (arith, both))
 
-unary_twice : (f : Fields) → operand_rule f ≡ true → (not (add_active f && is_unary f.op_add) || (f.add_b == f.add_a)) ≡ true
+pub unary_twice : (f : Fields) → operand_rule f ≡ true → (not (add_active f && is_unary f.op_add) || (f.add_b == f.add_a)) ≡ true
 unfolding operand_rule
 unary_twice f rule = right_of (f.pm == 0) (not (add_active f && is_unary f.op_add) || (f.add_b == f.add_a)) rule
 
@@ -75,7 +75,7 @@ bad_pack_by mode eighth pack row rest none is = grind (arith, nat_tests, none, i
 bad_unpack_by : (mode eighth packs : Bool) (unpack : ℕ) (far used : Bool) → (mode || eighth || packs || (not (unpack == 0) && (far || not used))) ≡ false → used ≡ false → unpack ≡ 0
 bad_unpack_by mode eighth packs unpack far used none is = grind (arith, nat_tests, none, is)
 
-no_bad_packing : (f : Fields) → IsPlain f → is_unit_word f ≡ true → bad_packing f ≡ false
+pub no_bad_packing : (f : Fields) → IsPlain f → is_unit_word f ≡ true → bad_packing f ≡ false
 unfolding has_fault
 no_bad_packing f p unit = packing_by (is_unit_word f) (bad_packing f) _ p.packing unit
 

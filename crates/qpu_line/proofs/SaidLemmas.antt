@@ -69,7 +69,7 @@ flags_kept : (f : Fields) → IsUnits f → IsSaid (unit_fields f) → flags_rul
 unfolding flags_rule
 flags_kept f u s = rw u.unit s.flags
 
-writes_too : (active matters somewhere : Bool) → ((active || (somewhere && (active || false || false))) && matters) ≡ (active && matters)
+pub writes_too : (active matters somewhere : Bool) → ((active || (somewhere && (active || false || false))) && matters) ≡ (active && matters)
 writes_too true matters somewhere = refl
 writes_too false matters true = refl
 writes_too false matters false = refl

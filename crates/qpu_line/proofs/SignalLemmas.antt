@@ -108,7 +108,7 @@ small_by true true used acting by far = by refl refl
 small_by true false used acting by far = far refl refl
 small_by false near used acting by far = refl
 
-far_code : (code : ℕ) → nat_lt code 48 ≡ false → nat_le 48 code ≡ true
+pub far_code : (code : ℕ) → nat_lt code 48 ≡ false → nat_le 48 code ≡ true
 far_code code near = grind (arith, nat_tests, near)
 
 not_of : (nothing : Bool) → nothing ≡ false → not nothing ≡ true

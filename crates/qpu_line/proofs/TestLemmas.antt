@@ -72,7 +72,7 @@ flags_of s below n =
     (flags_by s.sf (s.sf == 1) (not (idle s.op_add s.cond_add)) (not (idle s.op_mul s.cond_mul)) refl below n.sets)
 
 -- the exchange of files
-is_target : (in_b : Bool) (address : ℕ) → target_of in_b (address_of (target_of in_b address)) ≡ target_of in_b address
+pub is_target : (in_b : Bool) (address : ℕ) → target_of in_b (address_of (target_of in_b address)) ≡ target_of in_b address
 is_target in_b address = ap (target_of in_b) (address_back in_b address)
 
 b_by : (nothing in_b : Bool) (p : Part) (address : ℕ) → p.to ≡ target_of in_b address → in_file_b (to_of (if nothing then None else Some p)) ≡ true → (not nothing && file_matters address) ≡ true

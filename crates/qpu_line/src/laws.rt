@@ -9,7 +9,7 @@ ghost use Rattle.qpu_line.specs.declared.semaphore.Semaphore.{Semaphore as Step}
 ghost use Rattle.qpu_line.specs.declared.instruction.Instruction.TheVariants.{Both, Branch, Load, Semaphore};
 ghost use Rattle.qpu_line.specs.declared.units.Units.{Units};
 ghost use Rattle.qpu_line.specs.Both.{IsBoth};
-ghost use Rattle.qpu_line.specs.Named.{IsNamed};
+ghost use Rattle.qpu_line.specs.Named.{HasWord, IsNamed};
 ghost use Rattle.qpu_line.specs.Worded.{IsBranch, IsLoad, IsSemaphore};
 ghost use Rattle.qpu_line.specs.Canonical.{IsCanonical, canonical_instruction};
 
@@ -53,6 +53,17 @@ pub fn units_are_canonical()
 #[tactic(auto, using(crate::proofs::NamedLaw::named_again))]
 pub fn units_come_back()
     ensures { (u : Units) → IsBoth u → IsNamed u → canonical_instruction (word_of (Both u)) ≡ Some (Both u) }
+{}
+
+/// The instruction of a canonical word, of any form, is one that has a word: a line can name its
+/// parts, and they go into the fields of one word.
+pub fn canonical_words_are_named()
+    ensures { (w : ℕ) (i : Instruction) → canonical_instruction w ≡ Some i → HasWord i }
+{}
+
+/// Each instruction that has a word comes back from it.
+pub fn instructions_come_back()
+    ensures { (i : Instruction) → HasWord i → canonical_instruction (word_of i) ≡ Some i }
 {}
 
 /// A word whose idle unit has a mux isn't canonical. The file of this law's proof computes worked
