@@ -24,3 +24,4 @@ pub mod SayLemmas
 pub mod HeldLemmas
 pub mod PlainNames
 pub mod EachLaw
+pub mod AddressNames

@@ -1,6 +1,6 @@
 //! Laws that tie canonical words and their instructions. Each is a function without a body; its
 //! clause is the law.
-ghost use Rattle.std.specs.Prelude.{None, ◌≡◌, ◌<◌, ◌^◌, ℕ, Some};
+ghost use Rattle.std.specs.Prelude.{Bool, IsSome, None, true, ◌≡◌, ◌↔◌, ◌<◌, ◌^◌, ℕ, Some};
 ghost use Rattle.qpu_line.specs.declared.instruction.Instruction.{Instruction};
 ghost use Rattle.qpu_line.specs.Instructions.{word_of};
 ghost use Rattle.qpu_line.specs.declared.branch.Branch.{Branch as BranchOf};
@@ -9,7 +9,9 @@ ghost use Rattle.qpu_line.specs.declared.semaphore.Semaphore.{Semaphore as Step}
 ghost use Rattle.qpu_line.specs.declared.instruction.Instruction.TheVariants.{Both, Branch, Load, Semaphore};
 ghost use Rattle.qpu_line.specs.declared.units.Units.{Units};
 ghost use Rattle.qpu_line.specs.Both.{IsBoth};
-ghost use Rattle.qpu_line.specs.Named.{HasWord, IsNamed};
+ghost use Rattle.qpu_line.specs.Named.{HasWord, IsNamed, is_source};
+ghost use Rattle.qpu_word.specs.Names.{read_name, write_name};
+ghost use Rattle.qpu_word.specs.Words.{is_write_address};
 ghost use Rattle.qpu_line.specs.Worded.{IsBranch, IsLoad, IsSemaphore};
 ghost use Rattle.qpu_line.specs.Canonical.{IsCanonical, canonical_instruction};
 
@@ -64,6 +66,16 @@ pub fn canonical_words_are_named()
 /// Each instruction that has a word comes back from it.
 pub fn instructions_come_back()
     ensures { (i : Instruction) → HasWord i → canonical_instruction (word_of i) ≡ Some i }
+{}
+
+/// The read addresses that operands have are those with a name, in either file.
+pub fn sources_have_names()
+    ensures { (in_b : Bool) (address : ℕ) → IsSome (read_name in_b address) ↔ is_source address ≡ true }
+{}
+
+/// The write addresses that targets have are those with a name, in either file.
+pub fn targets_have_names()
+    ensures { (in_b : Bool) (address : ℕ) → IsSome (write_name in_b address) ↔ is_write_address address ≡ true }
 {}
 
 /// A word whose idle unit has a mux isn't canonical. The file of this law's proof computes worked
