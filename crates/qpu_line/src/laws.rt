@@ -10,7 +10,8 @@ ghost use Rattle.qpu_line.specs.declared.instruction.Instruction.TheVariants.{Bo
 ghost use Rattle.qpu_line.specs.declared.units.Units.{Units};
 ghost use Rattle.qpu_line.specs.Both.{IsBoth};
 ghost use Rattle.qpu_line.specs.Worded.{IsBranch, IsLoad, IsSemaphore};
-ghost use Rattle.qpu_line.specs.Canonical.{IsCanonical, canonical_instruction};
+ghost use Rattle.qpu_word.specs.Canonical.{IsCanonical};
+ghost use Rattle.qpu_line.specs.Canonical.{canonical_instruction};
 
 /// A canonical word is the word of its instruction.
 #[tactic(auto, using(crate::proofs::WordLaw::word_back))]
