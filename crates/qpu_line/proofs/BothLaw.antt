@@ -13,7 +13,8 @@ use Rattle.qpu_line.specs.declared.units.Signal.TheVariants.{Nothing, End, Load0
 use Rattle.qpu_line.specs.declared.units.Units.{Units}
 use Rattle.qpu_line.specs.declared.slots.UnitFields.{UnitFields}
 use Rattle.qpu_line.specs.declared.instruction.Instruction.TheVariants.{Both}
-use Rattle.qpu_line.specs.Canonical.{IsCanonical, canonical_instruction}
+use Rattle.qpu_word.specs.Canonical.{IsCanonical}
+use Rattle.qpu_line.specs.Canonical.{canonical_instruction}
 use Rattle.qpu_line.specs.Instructions.{instruction_of, word_of}
 use Rattle.qpu_line.specs.Slots.{unit_fields, unit_word, unit_high, unit_low}
 use Rattle.qpu_line.specs.Targets.{address_of}

@@ -5,7 +5,7 @@ use Rattle.std.proofs.lemmas.Bool.Decides.{nat_tests}
 use Rattle.qpu_word.specs.declared.word.Fields.{Fields}
 use Rattle.qpu_word.specs.Words.{fields_of, has_fault, is_unit_word, is_small, is_unary, add_active, mul_active, uses, packs_row, bad_packing}
 use Rattle.qpu_word.proofs.ProfileLemmas.{field_below}
-use Rattle.qpu_line.specs.Canonical.{IsCanonical, unit_rule, add_rule, mul_rule, operand_rule, small_rule}
+use Rattle.qpu_word.specs.Canonical.{IsCanonical, unit_rule, add_rule, mul_rule, operand_rule, small_rule}
 use Rattle.qpu_line.specs.Slots.{unit_fields}
 use Rattle.qpu_line.specs.Units.{any_uses, signal_of, signal_code}
 use Rattle.qpu_line.proofs.FormLemmas.{IsPlain, plain}

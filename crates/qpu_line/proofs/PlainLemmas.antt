@@ -5,7 +5,7 @@ use Rattle.std.proofs.lemmas.Bool.Decides.{nat_tests}
 use Rattle.qpu_word.specs.declared.word.Fields.{Fields}
 use Rattle.qpu_word.specs.Words.{field, fields_of, is_load}
 use Rattle.qpu_word.proofs.ProfileLemmas.{field_below}
-use Rattle.qpu_line.specs.Canonical.{semaphore_rule, branch_rule, load_rule, exchange_rule}
+use Rattle.qpu_word.specs.Canonical.{semaphore_rule, branch_rule, load_rule, exchange_rule}
 use Rattle.qpu_line.specs.Targets.{target_of}
 use Rattle.qpu_line.specs.Semaphores.{semaphore_of, semaphore_word}
 use Rattle.qpu_line.specs.Loads.{load_of, load_word, kind_of, kind_code, write_of, write_cond, write_target}

@@ -4,7 +4,8 @@ use Rattle.std.specs.Prelude.{◌==◌, ◌||◌, ◌&&◌, not, nat_lt, nat_le,
 use Rattle.std.proofs.lemmas.Bool.Decides.{nat_tests}
 use Rattle.qpu_line.specs.declared.slots.UnitFields.{UnitFields}
 use Rattle.qpu_line.specs.declared.part.Part.{Part}
-use Rattle.qpu_line.specs.Targets.{target_of, address_of, exchange_of, is_row_a, file_matters}
+use Rattle.qpu_word.specs.Canonical.{file_matters}
+use Rattle.qpu_line.specs.Targets.{target_of, address_of, exchange_of, is_row_a}
 use Rattle.qpu_line.specs.Units.{part_of, part_to, part_uses, any_uses, signal_of, other_read, units_of, row_a, unpack_of, row_b, small_signal, over, to_of, pack_of, signal_code, rotation_or, other_or, fields_of_units}
 use Rattle.qpu_line.proofs.TargetLemmas.{address_back, exchange_back, bit_back}
 use Rattle.qpu_line.proofs.UnitLemmas.{IsTidy, idle, op_back, cond_back, to_back, first_back, second_back, over_row_a, over_unpack, over_row_b, signal_used, two_uses}

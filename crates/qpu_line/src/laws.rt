@@ -13,7 +13,8 @@ ghost use Rattle.qpu_line.specs.Named.{HasWord, IsNamed, is_source};
 ghost use Rattle.qpu_word.specs.Names.{read_name, write_name};
 ghost use Rattle.qpu_word.specs.Words.{is_write_address};
 ghost use Rattle.qpu_line.specs.Worded.{IsBranch, IsLoad, IsSemaphore};
-ghost use Rattle.qpu_line.specs.Canonical.{IsCanonical, canonical_instruction};
+ghost use Rattle.qpu_word.specs.Canonical.{IsCanonical};
+ghost use Rattle.qpu_line.specs.Canonical.{canonical_instruction};
 
 /// A canonical word is the word of its instruction.
 #[tactic(auto, using(crate::proofs::WordLaw::word_back))]

@@ -7,7 +7,6 @@
 #![tactic(auto)]
 
 mod branch;
-mod canonical;
 mod instruction;
 mod laws;
 mod load;
