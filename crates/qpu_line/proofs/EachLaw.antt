@@ -6,7 +6,8 @@ use Rattle.qpu_word.specs.Form.{form_of}
 use Rattle.qpu_word.proofs.ProfileLemmas.{field_below}
 use Rattle.qpu_line.specs.declared.instruction.Instruction.{Instruction}
 use Rattle.qpu_line.specs.declared.instruction.Instruction.TheVariants.{Both, Load, Semaphore, Branch}
-use Rattle.qpu_line.specs.Canonical.{IsCanonical, canonical_instruction}
+use Rattle.qpu_word.specs.Canonical.{IsCanonical}
+use Rattle.qpu_line.specs.Canonical.{canonical_instruction}
 use Rattle.qpu_line.specs.Instructions.{instruction_of, word_of}
 use Rattle.qpu_line.specs.Slots.{unit_fields}
 use Rattle.qpu_line.specs.Units.{units_of}

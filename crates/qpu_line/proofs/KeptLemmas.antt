@@ -5,9 +5,8 @@ use Rattle.qpu_word.specs.declared.word.Fields.{Fields}
 use Rattle.qpu_word.specs.declared.fault.WordFault.TheVariants.{Signal, FloatOp, ReservedOp, ReadAddress, WriteAddress, Rotation, NoSource}
 use Rattle.qpu_word.specs.Words.{fields_of, has_fault, all_faults, word_fault, IsInProfile, is_unit_word, is_unary, is_read_address, is_write_address, between, bad_packing}
 use Rattle.qpu_word.proofs.ProfileLemmas.{every_row, field_below}
-use Rattle.qpu_line.specs.Canonical.{IsCanonical, unit_rule, add_rule, mul_rule, operand_rule, flags_rule, exchange_rule, row_rule, small_rule}
+use Rattle.qpu_word.specs.Canonical.{IsCanonical, unit_rule, add_rule, mul_rule, operand_rule, flags_rule, exchange_rule, row_rule, small_rule, file_matters}
 use Rattle.qpu_line.specs.Slots.{unit_fields}
-use Rattle.qpu_line.specs.Targets.{file_matters}
 use Rattle.qpu_line.specs.Units.{any_uses}
 use Rattle.qpu_line.proofs.FormLemmas.{plain}
 use Rattle.qpu_line.proofs.OwnLemmas.{uses_same, unary_twice, no_bad_packing}

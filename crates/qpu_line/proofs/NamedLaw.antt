@@ -5,7 +5,8 @@ use Rattle.qpu_word.specs.Words.{field, is_read_address, between}
 use Rattle.qpu_line.specs.declared.slots.UnitFields.{UnitFields}
 use Rattle.qpu_line.specs.declared.units.Units.{Units}
 use Rattle.qpu_line.specs.declared.instruction.Instruction.TheVariants.{Both}
-use Rattle.qpu_line.specs.Canonical.{IsCanonical, canonical_instruction}
+use Rattle.qpu_word.specs.Canonical.{IsCanonical}
+use Rattle.qpu_line.specs.Canonical.{canonical_instruction}
 use Rattle.qpu_line.specs.Instructions.{word_of}
 use Rattle.qpu_line.specs.Slots.{unit_word}
 use Rattle.qpu_line.specs.Units.{any_uses, units_of, fields_of_units}

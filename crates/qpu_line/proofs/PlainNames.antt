@@ -5,7 +5,7 @@ use Rattle.qpu_word.specs.declared.word.Fields.{Fields}
 use Rattle.qpu_word.specs.declared.fault.WordFault.TheVariants.{Signal, WriteAddress, BranchCond}
 use Rattle.qpu_word.specs.Words.{fields_of, has_fault, all_faults, word_fault, IsInProfile, is_load, is_branch, is_write_address, is_link_address, between, add_active, mul_active}
 use Rattle.qpu_word.proofs.ProfileLemmas.{every_row, field_below}
-use Rattle.qpu_line.specs.Canonical.{IsCanonical}
+use Rattle.qpu_word.specs.Canonical.{IsCanonical}
 use Rattle.qpu_line.specs.Targets.{target_of, exchange_of}
 use Rattle.qpu_line.specs.Loads.{load_of, write_of, write_target}
 use Rattle.qpu_line.specs.Branches.{branch_of, register_of}

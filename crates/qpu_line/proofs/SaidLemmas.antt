@@ -7,9 +7,8 @@ use Rattle.qpu_word.specs.declared.word.Fields.{Fields}
 use Rattle.qpu_word.specs.declared.fault.WordFault.TheVariants.{Signal, FloatOp, ReservedOp, ReadAddress, WriteAddress, Packing, BranchCond, LoadKind, Rotation, SemaphoreTarget, NoSource}
 use Rattle.qpu_word.specs.Words.{fields_of, has_fault, word_fault, IsInProfile, is_unit_word, is_unary, is_read_address, is_write_address, between}
 use Rattle.qpu_line.specs.declared.slots.UnitFields.{UnitFields}
-use Rattle.qpu_line.specs.Canonical.{IsCanonical, unit_rule, add_rule, mul_rule, operand_rule, flags_rule, exchange_rule, row_rule, small_rule, load_rule, semaphore_rule, branch_rule}
+use Rattle.qpu_word.specs.Canonical.{IsCanonical, unit_rule, add_rule, mul_rule, operand_rule, flags_rule, exchange_rule, row_rule, small_rule, load_rule, semaphore_rule, branch_rule, file_matters}
 use Rattle.qpu_line.specs.Slots.{unit_fields}
-use Rattle.qpu_line.specs.Targets.{file_matters}
 use Rattle.qpu_line.specs.Units.{any_uses}
 use Rattle.qpu_line.proofs.OwnLemmas.{uses_same}
 

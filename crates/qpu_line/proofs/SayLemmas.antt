@@ -6,7 +6,7 @@ use Rattle.qpu_word.specs.Words.{between, is_read_address, is_write_address, is_
 use Rattle.qpu_word.specs.Operations.{add_op, mul_op}
 use Rattle.qpu_line.specs.declared.part.Part.{Part}
 use Rattle.qpu_line.specs.declared.slots.UnitFields.{UnitFields}
-use Rattle.qpu_line.specs.Canonical.{unit_rule}
+use Rattle.qpu_word.specs.Canonical.{unit_rule}
 use Rattle.qpu_line.specs.Targets.{target_of, is_row_a}
 use Rattle.qpu_line.specs.Units.{operand_of, part_to, any_uses}
 use Rattle.qpu_line.specs.Named.{is_unpack_at, IsNamedPart, IsAddPart, IsMulPart}

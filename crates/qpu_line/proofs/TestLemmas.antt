@@ -5,8 +5,8 @@ use Rattle.std.proofs.lemmas.Bool.Decides.{nat_tests}
 use Rattle.qpu_word.specs.Words.{between, is_write_address, is_unary}
 use Rattle.qpu_line.specs.declared.part.Part.{Part}
 use Rattle.qpu_line.specs.declared.slots.UnitFields.{UnitFields}
-use Rattle.qpu_line.specs.Canonical.{unit_rule}
-use Rattle.qpu_line.specs.Targets.{target_of, address_of, is_row_a, in_file_a, in_file_b, file_matters}
+use Rattle.qpu_word.specs.Canonical.{unit_rule, file_matters}
+use Rattle.qpu_line.specs.Targets.{target_of, address_of, is_row_a, in_file_a, in_file_b}
 use Rattle.qpu_line.specs.Units.{operand_of, part_of, part_to, part_uses, any_uses, mux_of, unpack_of, over, to_of, pack_of, pack_at}
 use Rattle.qpu_line.specs.Named.{is_source, is_unpack_at, is_pack_at, IsNamedPart}
 use Rattle.qpu_line.proofs.AgainLemmas.{exchange_by, matters_in_a, matters_in_b}
