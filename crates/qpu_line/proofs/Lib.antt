@@ -25,3 +25,4 @@ pub mod HeldLemmas
 pub mod PlainNames
 pub mod EachLaw
 pub mod AddressNames
+pub mod FitLaw

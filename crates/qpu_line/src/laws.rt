@@ -69,6 +69,11 @@ pub fn instructions_come_back()
     ensures { (i : Instruction) → HasWord i → canonical_instruction (word_of i) ≡ Some i }
 {}
 
+/// Its word is one of 64 bits.
+pub fn words_fit()
+    ensures { (i : Instruction) → HasWord i → word_of i < 2 ^ 64 }
+{}
+
 /// The read addresses that operands have are those with a name, in either file.
 pub fn sources_have_names()
     ensures { (in_b : Bool) (address : ℕ) → IsSome (read_name in_b address) ↔ is_source address ≡ true }
