@@ -5,7 +5,8 @@ use Rattle.std.proofs.lemmas.Bool.Decides.{nat_tests}
 use Rattle.qpu_word.specs.declared.name.Place.{Place}
 use Rattle.qpu_word.specs.declared.name.Place.TheVariants.{Both, FileA, FileB}
 use Rattle.qpu_word.specs.Words.{is_write_address, is_link_address}
-use Rattle.qpu_line.specs.Targets.{file_matters, target_of, address_of, in_file_a, in_file_b}
+use Rattle.qpu_word.specs.Canonical.{file_matters}
+use Rattle.qpu_line.specs.Targets.{target_of, address_of, in_file_a, in_file_b}
 use Rattle.qpu_line.specs.Worded.{IsTarget}
 
 -- targets whose file is told matter

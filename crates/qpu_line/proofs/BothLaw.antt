@@ -13,7 +13,8 @@ use Rattle.qpu_line.specs.declared.units.Signal.TheVariants.{Nothing, End, Load0
 use Rattle.qpu_line.specs.declared.units.Units.{Units}
 use Rattle.qpu_line.specs.declared.slots.UnitFields.{UnitFields}
 use Rattle.qpu_line.specs.declared.instruction.Instruction.TheVariants.{Both}
-use Rattle.qpu_line.specs.Canonical.{IsCanonical, canonical_instruction}
+use Rattle.qpu_word.specs.Canonical.{IsCanonical}
+use Rattle.qpu_line.specs.Canonical.{canonical_instruction}
 use Rattle.qpu_line.specs.Instructions.{instruction_of, word_of}
 use Rattle.qpu_line.specs.Slots.{unit_fields, unit_word, unit_high, unit_low}
 use Rattle.qpu_line.specs.Targets.{address_of}
@@ -63,7 +64,7 @@ flags_again : (u : Units) → (units_of (fields_of_units u)).sets ≡ u.sets
 unfolding units_of fields_of_units
 flags_again u = sets_again u.sets
 
-units_again : (u : Units) → IsBoth u → units_of (fields_of_units u) ≡ u
+pub units_again : (u : Units) → IsBoth u → units_of (fields_of_units u) ≡ u
 unfolding units_of
 units_again u is = λ i. record {
   add = add_again u is i;
@@ -75,7 +76,7 @@ units_again u is = λ i. record {
 }
 
 -- the signal is one of those of both units
-abbrev is_unit_signal : ℕ → Bool
+abbrev pub is_unit_signal : ℕ → Bool
 is_unit_signal n = ((n == 1) || (n == 3) || (n == 10) || (n == 11)) || (n == 13)
 
 signal_is : (g : Signal) → is_unit_signal (signal_code g) ≡ true
@@ -95,7 +96,7 @@ part_signal : (p : Option Part) (n : ℕ) → is_unit_signal n ≡ true → is_u
 part_signal None n is = is
 part_signal (Some p) n is = operand_signal p.a (small_signal p.b n) (operand_signal p.b n is)
 
-units_signal : (u : Units) → is_unit_signal (fields_of_units u).sig ≡ true
+pub units_signal : (u : Units) → is_unit_signal (fields_of_units u).sig ≡ true
 unfolding fields_of_units
 units_signal u = part_signal u.add (over small_signal u.mul (signal_code u.signal)) (part_signal u.mul (signal_code u.signal) (signal_is u.signal))
 
@@ -103,17 +104,17 @@ signal_below : (n : ℕ) → is_unit_signal n ≡ true → n < 16
 signal_below n is = grind (arith, nat_tests, is)
 
 -- the fields come back from their word
-record IsWhole (s : UnitFields) : Type 0 where
-  range : InRange s
-  sig : s.sig < 16
-  sf : s.sf < 2
-  ws : s.ws < 2
-  add_a : s.add_a < 8
-  add_b : s.add_b < 8
-  mul_a : s.mul_a < 8
-  mul_b : s.mul_b < 8
+pub record IsWhole (s : UnitFields) : Type 0 where
+  pub range : InRange s
+  pub sig : s.sig < 16
+  pub sf : s.sf < 2
+  pub ws : s.ws < 2
+  pub add_a : s.add_a < 8
+  pub add_b : s.add_b < 8
+  pub mul_a : s.mul_a < 8
+  pub mul_b : s.mul_b < 8
 
-whole : (u : Units) → IsBoth u → IsWhole (fields_of_units u)
+pub whole : (u : Units) → IsBoth u → IsWhole (fields_of_units u)
 unfolding fields_of_units
 whole u is = record {
   range = is.range;
@@ -133,7 +134,7 @@ halves high low below = omega arith
 low_below : (s : UnitFields) → unit_low s < 2 ^ 32
 low_below s = omega arith
 
-fields_again : (s : UnitFields) → IsWhole s → unit_fields (fields_of (unit_word s)) ≡ s
+pub fields_again : (s : UnitFields) → IsWhole s → unit_fields (fields_of (unit_word s)) ≡ s
 unfolding unit_word
 fields_again s h =
     let sig : s.sig < 16 = h.sig in
@@ -200,7 +201,7 @@ read_as f true small is_a is_s unit = rw is_a refl
 read_as f false true is_a is_s unit = rw (is_a, is_s) refl
 read_as f false false is_a is_s unit = absurd (none_there (is_alu f) (is_small f) is_a is_s unit)
 
-unit_there : (u : Units) → IsBoth u → is_unit_word (fields_of (unit_word (fields_of_units u))) ≡ true
+pub unit_there : (u : Units) → IsBoth u → is_unit_word (fields_of (unit_word (fields_of_units u))) ≡ true
 unit_there u is =
     let e : unit_fields (fields_of (unit_word (fields_of_units u))) ≡ fields_of_units u = fields_again (fields_of_units u) (whole u is) in
     ap (λ s. is_unit_signal s.sig) e ∙ units_signal u

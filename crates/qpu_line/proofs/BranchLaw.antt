@@ -7,9 +7,10 @@ use Rattle.qpu_word.specs.Words.{field, fields_of, has_fault, word_fault, is_lin
 use Rattle.qpu_word.specs.Form.{word_form, form_of}
 use Rattle.qpu_line.specs.declared.branch.Branch.{Branch as BranchOf}
 use Rattle.qpu_line.specs.declared.instruction.Instruction.TheVariants.{Branch}
-use Rattle.qpu_line.specs.Canonical.{canonical_instruction, keeps_rules, add_rule, mul_rule, operand_rule, flags_rule, exchange_rule, row_rule, small_rule, load_rule, semaphore_rule, branch_rule}
+use Rattle.qpu_word.specs.Canonical.{file_matters, keeps_rules, add_rule, mul_rule, operand_rule, flags_rule, exchange_rule, row_rule, small_rule, load_rule, semaphore_rule, branch_rule}
+use Rattle.qpu_line.specs.Canonical.{canonical_instruction}
 use Rattle.qpu_line.specs.Instructions.{instruction_of, word_of}
-use Rattle.qpu_line.specs.Targets.{file_matters, address_of, exchange_of, in_file_a, in_file_b}
+use Rattle.qpu_line.specs.Targets.{address_of, exchange_of, in_file_a, in_file_b}
 use Rattle.qpu_line.specs.Branches.{branch_of, branch_word, register_of, register_row}
 use Rattle.qpu_line.specs.Worded.{IsBranch, IsTarget}
 use Rattle.qpu_line.proofs.AgainLemmas.{matters_in_a, matters_in_b, exchange_by, link_below, link_writes, bit_below, sets_again}

@@ -13,3 +13,16 @@ pub mod SemaphoreLaw
 pub mod LoadLaw
 pub mod BothLaw
 pub mod WordTrials
+pub mod SaidLemmas
+pub mod SourceLemmas
+pub mod NamedLemmas
+pub mod TestLemmas
+pub mod SignalLemmas
+pub mod NamedLaw
+pub mod KeptLemmas
+pub mod SayLemmas
+pub mod HeldLemmas
+pub mod PlainNames
+pub mod EachLaw
+pub mod AddressNames
+pub mod FitLaw

@@ -8,9 +8,10 @@ use Rattle.qpu_line.specs.declared.load.LoadKind.{LoadKind}
 use Rattle.qpu_line.specs.declared.load.LoadKind.TheVariants.{Whole, Signed, Unsigned}
 use Rattle.qpu_line.specs.declared.load.Write.{Write}
 use Rattle.qpu_line.specs.declared.instruction.Instruction.TheVariants.{Load}
-use Rattle.qpu_line.specs.Canonical.{canonical_instruction, keeps_rules, add_rule, mul_rule, operand_rule, flags_rule, exchange_rule, row_rule, small_rule, load_rule, semaphore_rule, branch_rule}
+use Rattle.qpu_word.specs.Canonical.{file_matters, keeps_rules, add_rule, mul_rule, operand_rule, flags_rule, exchange_rule, row_rule, small_rule, load_rule, semaphore_rule, branch_rule}
+use Rattle.qpu_line.specs.Canonical.{canonical_instruction}
 use Rattle.qpu_line.specs.Instructions.{instruction_of, word_of}
-use Rattle.qpu_line.specs.Targets.{file_matters, address_of, exchange_of, in_file_a, in_file_b}
+use Rattle.qpu_line.specs.Targets.{address_of, exchange_of, in_file_a, in_file_b}
 use Rattle.qpu_line.specs.Loads.{load_of, load_word, kind_of, kind_code, write_of, write_cond, write_target}
 use Rattle.qpu_line.proofs.AgainLemmas.{matters_in_a, matters_in_b, exchange_by, named_below, bit_below, sets_again}
 use Rattle.qpu_line.specs.Worded.{IsLoad, IsWrite, IsTarget}

@@ -5,7 +5,7 @@ use Rattle.std.proofs.lemmas.Bool.Decides.{nat_tests}
 use Rattle.qpu_word.specs.declared.word.Fields.{Fields}
 use Rattle.qpu_word.specs.Words.{fields_of, has_fault, is_unit_word, is_small, is_unary, add_active, mul_active, uses, packs_row, bad_packing}
 use Rattle.qpu_word.proofs.ProfileLemmas.{field_below}
-use Rattle.qpu_line.specs.Canonical.{IsCanonical, unit_rule, add_rule, mul_rule, operand_rule, small_rule}
+use Rattle.qpu_word.specs.Canonical.{IsCanonical, unit_rule, add_rule, mul_rule, operand_rule, small_rule}
 use Rattle.qpu_line.specs.Slots.{unit_fields}
 use Rattle.qpu_line.specs.Units.{any_uses, signal_of, signal_code}
 use Rattle.qpu_line.proofs.FormLemmas.{IsPlain, plain}
@@ -34,7 +34,7 @@ unfolding mul_rule
 mul_tidy f rule unit = tidy_by (is_unit_word f) f.op_mul f.cond_mul f.waddr_mul f.mul_a f.mul_b rule unit
 
 -- active and idle
-active_by : (unit a b : Bool) → unit ≡ true → (unit && not a && not b) ≡ not (a || b)
+pub active_by : (unit a b : Bool) → unit ≡ true → (unit && not a && not b) ≡ not (a || b)
 active_by true true b is = refl
 active_by true false b is = refl
 active_by false a b is = absurd (grind (arith, is))
@@ -50,11 +50,11 @@ right_of : (a b : Bool) → (a && b) ≡ true → b ≡ true
 right_of true b both = both
 right_of false b both = absurd (grind (arith, both))
 
-unary_twice : (f : Fields) → operand_rule f ≡ true → (not (add_active f && is_unary f.op_add) || (f.add_b == f.add_a)) ≡ true
+pub unary_twice : (f : Fields) → operand_rule f ≡ true → (not (add_active f && is_unary f.op_add) || (f.add_b == f.add_a)) ≡ true
 unfolding operand_rule
 unary_twice f rule = right_of (f.pm == 0) (not (add_active f && is_unary f.op_add) || (f.add_b == f.add_a)) rule
 
-uses_same : (f : Fields) (m : ℕ) → is_unit_word f ≡ true → operand_rule f ≡ true → uses f m ≡ any_uses (unit_fields f) m
+pub uses_same : (f : Fields) (m : ℕ) → is_unit_word f ≡ true → operand_rule f ≡ true → uses f m ≡ any_uses (unit_fields f) m
 uses_same f m unit rule =
     rw (add_uses_by (add_active f) (is_unary f.op_add) f.add_a f.add_b m (unary_twice f rule))
     (rw (active_by (is_unit_word f) (f.op_add == 0) (f.cond_add == 0) unit, active_by (is_unit_word f) (f.op_mul == 0) (f.cond_mul == 0) unit) refl)
@@ -75,7 +75,7 @@ bad_pack_by mode eighth pack row rest none is = grind (arith, nat_tests, none, i
 bad_unpack_by : (mode eighth packs : Bool) (unpack : ℕ) (far used : Bool) → (mode || eighth || packs || (not (unpack == 0) && (far || not used))) ≡ false → used ≡ false → unpack ≡ 0
 bad_unpack_by mode eighth packs unpack far used none is = grind (arith, nat_tests, none, is)
 
-no_bad_packing : (f : Fields) → IsPlain f → is_unit_word f ≡ true → bad_packing f ≡ false
+pub no_bad_packing : (f : Fields) → IsPlain f → is_unit_word f ≡ true → bad_packing f ≡ false
 unfolding has_fault
 no_bad_packing f p unit = packing_by (is_unit_word f) (bad_packing f) _ p.packing unit
 

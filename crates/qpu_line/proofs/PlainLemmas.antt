@@ -5,7 +5,7 @@ use Rattle.std.proofs.lemmas.Bool.Decides.{nat_tests}
 use Rattle.qpu_word.specs.declared.word.Fields.{Fields}
 use Rattle.qpu_word.specs.Words.{field, fields_of, is_load}
 use Rattle.qpu_word.proofs.ProfileLemmas.{field_below}
-use Rattle.qpu_line.specs.Canonical.{semaphore_rule, branch_rule, load_rule, exchange_rule}
+use Rattle.qpu_word.specs.Canonical.{semaphore_rule, branch_rule, load_rule, exchange_rule}
 use Rattle.qpu_line.specs.Targets.{target_of}
 use Rattle.qpu_line.specs.Semaphores.{semaphore_of, semaphore_word}
 use Rattle.qpu_line.specs.Loads.{load_of, load_word, kind_of, kind_code, write_of, write_cond, write_target}
@@ -75,10 +75,10 @@ kind_back : (f : Fields) → is_load f ≡ true → kind_code (kind_of f.kind) �
 kind_back f is = grind (arith, nat_tests, is)
 
 -- a unit whose condition and address both say that it doesn't write, or neither
-SaysOnce : ℕ → ℕ → Type 0
+pub SaysOnce : ℕ → ℕ → Type 0
 SaysOnce cond address = ((cond == 0) || (address == 39)) ≡ true → (cond ≡ 0) × (address ≡ 39)
 
-says_once : (f : Fields) → f.sig ≡ 14 → is_load f ≡ true → load_rule f ≡ true → SaysOnce f.cond_add f.waddr_add × SaysOnce f.cond_mul f.waddr_mul
+pub says_once : (f : Fields) → f.sig ≡ 14 → is_load f ≡ true → load_rule f ≡ true → SaysOnce f.cond_add f.waddr_add × SaysOnce f.cond_mul f.waddr_mul
 unfolding load_rule SaysOnce
 says_once f sig is rule = (λ idle. grind (arith, nat_tests, is, rule, idle), λ idle. grind (arith, nat_tests, is, rule, idle))
 
@@ -87,7 +87,7 @@ unfolding SaysOnce
 cond_by true in_b cond address is once = rw is (sym (once is).0)
 cond_by false in_b cond address is once = rw is refl
 
-target_by : (idle in_b : Bool) (cond address : ℕ) → ((cond == 0) || (address == 39)) ≡ idle → SaysOnce cond address → write_target (write_of cond in_b address) ≡ target_of in_b address
+pub target_by : (idle in_b : Bool) (cond address : ℕ) → ((cond == 0) || (address == 39)) ≡ idle → SaysOnce cond address → write_target (write_of cond in_b address) ≡ target_of in_b address
 unfolding SaysOnce target_of
 target_by true in_b cond address is once = rw (is, (once is).1) refl
 target_by false in_b cond address is once = rw is refl

@@ -1,4 +1,4 @@
--- A word keeps all rules exactly where it keeps each.
+-- An instruction is read exactly where a word is canonical.
 use Rattle.std.proofs.Common.{◌≡◌, ◌↔◌, ℕ, Bool, true, false, Option, Some, None, refl, sym, subst, arith}
 use Rattle.std.specs.Prelude.{IsSome, if◌then◌else◌}
 use Rattle.qpu_word.specs.declared.fault.WordFault.{WordFault}
@@ -7,27 +7,9 @@ use Rattle.qpu_line.specs.Instructions.{instruction_of}
 use Rattle.std.proofs.lemmas.Bool.Decides.{nat_tests}
 use Rattle.qpu_word.specs.Words.{fields_of, word_fault, IsInProfile}
 use Rattle.qpu_word.specs.Form.{word_form, form_or, form_of}
-use Rattle.qpu_line.specs.Canonical.{IsCanonical, canonical_instruction, read_by, keeps_rules}
-
-pub all_rules : (w : ℕ) → IsCanonical w → keeps_rules (fields_of w) ≡ true
-unfolding keeps_rules
-all_rules w c = rw (c.adds, c.muls, c.operands, c.flags, c.exchange, c.rows, c.small, c.loads, c.semaphores, c.branches) refl
-
-pub each_rule : (w : ℕ) → IsInProfile w → keeps_rules (fields_of w) ≡ true → IsCanonical w
-unfolding keeps_rules
-each_rule w inside all = record {
-  inside = inside;
-  adds = grind (arith, nat_tests);
-  muls = grind (arith, nat_tests);
-  operands = grind (arith, nat_tests);
-  flags = grind (arith, nat_tests);
-  exchange = grind (arith, nat_tests);
-  rows = grind (arith, nat_tests);
-  small = grind (arith, nat_tests);
-  loads = grind (arith, nat_tests);
-  semaphores = grind (arith, nat_tests);
-  branches = grind (arith, nat_tests);
-}
+use Rattle.qpu_word.specs.Canonical.{IsCanonical, keeps_rules}
+use Rattle.qpu_word.proofs.CanonicalLemmas.{all_rules, each_rule}
+use Rattle.qpu_line.specs.Canonical.{canonical_instruction, read_by}
 
 some_where : (w : ℕ) → IsCanonical w → IsSome (canonical_instruction w)
 unfolding canonical_instruction word_form

@@ -6,7 +6,8 @@ use Rattle.qpu_word.specs.Words.{field, fields_of, has_fault, word_fault}
 use Rattle.qpu_word.specs.Form.{word_form, form_of}
 use Rattle.qpu_line.specs.declared.semaphore.Semaphore.{Semaphore as Step}
 use Rattle.qpu_line.specs.declared.instruction.Instruction.TheVariants.{Semaphore}
-use Rattle.qpu_line.specs.Canonical.{canonical_instruction, keeps_rules, add_rule, mul_rule, operand_rule, flags_rule, exchange_rule, row_rule, small_rule, load_rule, semaphore_rule, branch_rule}
+use Rattle.qpu_word.specs.Canonical.{keeps_rules, add_rule, mul_rule, operand_rule, flags_rule, exchange_rule, row_rule, small_rule, load_rule, semaphore_rule, branch_rule}
+use Rattle.qpu_line.specs.Canonical.{canonical_instruction}
 use Rattle.qpu_line.specs.Instructions.{instruction_of, word_of}
 use Rattle.qpu_line.specs.Semaphores.{semaphore_of, semaphore_word, semaphore_low, semaphore_high}
 use Rattle.qpu_line.specs.Worded.{IsSemaphore}

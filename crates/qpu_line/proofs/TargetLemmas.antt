@@ -5,8 +5,8 @@ use Rattle.std.proofs.lemmas.Bool.Decides.{nat_tests}
 use Rattle.qpu_word.specs.declared.name.Place.{Place}
 use Rattle.qpu_word.specs.declared.name.Place.TheVariants.{Both, FileA, FileB}
 use Rattle.qpu_word.specs.declared.word.Fields.{Fields}
-use Rattle.qpu_line.specs.Canonical.{exchange_rule}
-use Rattle.qpu_line.specs.Targets.{file_matters, target_of, address_of, exchange_of}
+use Rattle.qpu_word.specs.Canonical.{exchange_rule, file_matters}
+use Rattle.qpu_line.specs.Targets.{target_of, address_of, exchange_of}
 
 -- a target by whether its file matters
 abbrev pub place_of : Bool → Bool → ℕ → Place

@@ -4,7 +4,8 @@ use Rattle.std.specs.Prelude.{◌==◌, ◌||◌, ◌&&◌, not, nat_lt, nat_le,
 use Rattle.std.proofs.lemmas.Bool.Decides.{nat_tests}
 use Rattle.qpu_line.specs.declared.slots.UnitFields.{UnitFields}
 use Rattle.qpu_line.specs.declared.part.Part.{Part}
-use Rattle.qpu_line.specs.Targets.{target_of, address_of, exchange_of, is_row_a, file_matters}
+use Rattle.qpu_word.specs.Canonical.{file_matters}
+use Rattle.qpu_line.specs.Targets.{target_of, address_of, exchange_of, is_row_a}
 use Rattle.qpu_line.specs.Units.{part_of, part_to, part_uses, any_uses, signal_of, other_read, units_of, row_a, unpack_of, row_b, small_signal, over, to_of, pack_of, signal_code, rotation_or, other_or, fields_of_units}
 use Rattle.qpu_line.proofs.TargetLemmas.{address_back, exchange_back, bit_back}
 use Rattle.qpu_line.proofs.UnitLemmas.{IsTidy, idle, op_back, cond_back, to_back, first_back, second_back, over_row_a, over_unpack, over_row_b, signal_used, two_uses}
@@ -27,10 +28,10 @@ pub record IsOwn (s : UnitFields) : Type 0 where
   pub small : (s.sig == 13) ≡ true → any_uses s 7 ≡ false → nat_le 48 s.raddr_b ≡ true
 
 -- the parts of the instruction
-abbrev add_part : UnitFields → Option Part
+abbrev pub add_part : UnitFields → Option Part
 add_part s = part_of s (s.ws == 1) s.op_add s.cond_add s.waddr_add s.add_a s.add_b
 
-abbrev mul_part : UnitFields → Option Part
+abbrev pub mul_part : UnitFields → Option Part
 mul_part s = part_of s (not (s.ws == 1)) s.op_mul s.cond_mul s.waddr_mul s.mul_a s.mul_b
 
 neither_used : (a b : Bool) → a ≡ false → b ≡ false → (a || b) ≡ false
@@ -112,7 +113,7 @@ pack_by : (nothing : Bool) (p : Part) (rest : ℕ) → pack_of (if nothing then 
 pack_by true p rest = refl
 pack_by false p rest = refl
 
-row_a_of : (in_b : Bool) (address : ℕ) → is_row_a (target_of in_b address) ≡ (not in_b && nat_lt address 32)
+pub row_a_of : (in_b : Bool) (address : ℕ) → is_row_a (target_of in_b address) ≡ (not in_b && nat_lt address 32)
 unfolding target_of
 row_a_of true address = grind (arith, nat_tests)
 row_a_of false address = grind (arith, nat_tests)
@@ -122,7 +123,7 @@ same_pack true true pack rest = refl
 same_pack true false pack rest = refl
 same_pack false b pack rest = refl
 
-pack_part : (s : UnitFields) (in_b : Bool) (op cond address x y rest : ℕ)
+pub pack_part : (s : UnitFields) (in_b : Bool) (op cond address x y rest : ℕ)
     → pack_of (part_of s in_b op cond address x y) rest ≡ (if not (idle op cond) && (not in_b && nat_lt address 32) then s.pack else rest)
 unfolding part_of
 pack_part s in_b op cond address x y rest =

@@ -45,7 +45,7 @@ pub to_back : (s : UnitFields) (in_b : Bool) (op cond address x y : ℕ) → IsT
 unfolding part_of
 to_back s in_b op cond address x y tidy = read_back to_of (idle op cond) _ (target_of in_b address) (λ i. nowhere_target in_b address (tidy i).address) (λ i. refl)
 
-mux_back : (s : UnitFields) (m : ℕ) → m < 8 → mux_of (operand_of s m) ≡ m
+pub mux_back : (s : UnitFields) (m : ℕ) → m < 8 → mux_of (operand_of s m) ≡ m
 mux_back s m below = grind (arith, nat_tests)
 
 pub first_back : (s : UnitFields) (in_b : Bool) (op cond address x y : ℕ) → IsTidy op cond address x y → x < 8 → first_of (part_of s in_b op cond address x y) ≡ x

@@ -6,7 +6,8 @@ use Rattle.qpu_word.specs.declared.word.Fields.{Fields}
 use Rattle.qpu_word.specs.Words.{field, fields_of, is_unit_word, is_alu, is_small, is_branch}
 use Rattle.qpu_word.specs.Form.{form_of}
 use Rattle.qpu_line.specs.declared.instruction.Instruction.{Instruction}
-use Rattle.qpu_line.specs.Canonical.{IsCanonical, canonical_instruction, operand_rule}
+use Rattle.qpu_word.specs.Canonical.{IsCanonical, operand_rule}
+use Rattle.qpu_line.specs.Canonical.{canonical_instruction}
 use Rattle.qpu_line.specs.Slots.{unit_fields, unit_word}
 use Rattle.qpu_line.specs.Units.{units_of, fields_of_units}
 use Rattle.qpu_line.specs.Instructions.{instruction_of, word_of}

@@ -9,7 +9,8 @@ use Rattle.qpu_line.specs.declared.load.LoadKind.TheVariants.{Whole}
 use Rattle.qpu_line.specs.declared.units.Signal.TheVariants.{Nothing, Rotate}
 use Rattle.qpu_line.specs.declared.instruction.Instruction.{Instruction}
 use Rattle.qpu_line.specs.declared.instruction.Instruction.TheVariants.{Both, Branch, Load, Semaphore}
-use Rattle.qpu_line.specs.Canonical.{canonical_instruction, keeps_rules, add_rule, mul_rule, operand_rule, flags_rule, exchange_rule, row_rule, small_rule, load_rule, semaphore_rule, branch_rule}
+use Rattle.qpu_word.specs.Canonical.{keeps_rules, add_rule, mul_rule, operand_rule, flags_rule, exchange_rule, row_rule, small_rule, load_rule, semaphore_rule, branch_rule}
+use Rattle.qpu_line.specs.Canonical.{canonical_instruction}
 use Rattle.qpu_line.specs.Instructions.{instruction_of, word_of}
 use Rattle.qpu_line.specs.Slots.{unit_word}
 use Rattle.qpu_line.specs.Targets.{target_of}

@@ -11,3 +11,4 @@ pub mod Both
 pub mod Spellings
 pub mod Names
 pub mod Lines
+pub mod Named

@@ -1,14 +1,11 @@
 -- VideoCore IV 3D Architecture Reference Guide, "QPU Register Address Map": which write addresses
 -- say something else in file A than in file B. That a target names its file only there is this
 -- project's own.
-use Rattle.std.specs.Prelude.{ℕ, ◌==◌, ◌||◌, Bool, true, false, nat_lt, if◌then◌else◌}
+use Rattle.std.specs.Prelude.{ℕ, ◌||◌, Bool, true, false, nat_lt, if◌then◌else◌}
 use Rattle.qpu_word.specs.declared.name.Place.{Place}
 use Rattle.qpu_word.specs.declared.name.Place.TheVariants.{Both, FileA, FileB}
-use Rattle.qpu_word.specs.declared.code.TheConstants.{ROWS, WRITE_R5, WRITE_VPM_SETUP, WRITE_DMA_ADDRESS}
-
--- a write address that is another place in file A than in file B
-abbrev pub file_matters : ℕ → Bool
-file_matters a = nat_lt a ROWS || (a == WRITE_R5) || (a == WRITE_VPM_SETUP) || (a == WRITE_DMA_ADDRESS)
+use Rattle.qpu_word.specs.declared.code.TheConstants.{ROWS}
+use Rattle.qpu_word.specs.Canonical.{file_matters}
 
 -- the target of a write address of file A or B
 unfoldable pub target_of : Bool → ℕ → Place

@@ -1,10 +1,10 @@
 //! Instructions of all forms, from words and back.
 ghost use Rattle.std.specs.Prelude.{◌≡◌, ◌↔◌, IsSome};
 ghost use Rattle.qpu_line.specs.Instructions.{instruction_of, word_of};
-ghost use Rattle.qpu_line.specs.Canonical.{IsCanonical, canonical_instruction};
+ghost use Rattle.qpu_word.specs.Canonical.{IsCanonical};
+ghost use Rattle.qpu_line.specs.Canonical.{canonical_instruction};
 
 use crate::branch::Branch;
-use crate::canonical::keeps_rules;
 use crate::load::Load;
 use crate::semaphore::Semaphore;
 use crate::slots::UnitFields;
@@ -44,7 +44,7 @@ fn read_canonical(word: Word) -> Option<Instruction>
 {
     let f = word.fields();
     match word.form() {
-        Ok(form) if keeps_rules(&f) => Some(instruction_of(form, &f)),
+        Ok(form) if f.keeps_rules() => Some(instruction_of(form, &f)),
         _ => None,
     }
 }

@@ -7,7 +7,6 @@
 #![tactic(auto)]
 
 mod branch;
-mod canonical;
 mod instruction;
 mod laws;
 mod load;
@@ -24,8 +23,10 @@ mod units;
 pub use branch::Branch;
 pub use instruction::Instruction;
 pub use laws::{
-    a_mux_of_an_idle_unit_is_refused, branches_come_back, loads_come_back,
-    one_instruction_has_one_word, semaphores_come_back, units_come_back, words_come_back,
+    a_mux_of_an_idle_unit_is_refused, branches_come_back, canonical_words_are_named,
+    instructions_come_back, loads_come_back, one_instruction_has_one_word, semaphores_come_back,
+    sources_have_names, targets_have_names, units_are_canonical, units_come_back, words_come_back,
+    words_fit,
 };
 pub use load::{Load, LoadKind, Write};
 pub use name::{Name, Register};

@@ -1,19 +1,10 @@
 //! Targets of writes: an address, with its file where that matters.
 ghost use Rattle.std.specs.Prelude.{◌≡◌, ◌==◌};
-ghost use Rattle.qpu_line.specs.Targets.{file_matters, target_of, address_of, in_file_a, in_file_b, is_row_a, exchange_of};
+ghost use Rattle.qpu_word.specs.Canonical.{file_matters};
+ghost use Rattle.qpu_line.specs.Targets.{target_of, address_of, in_file_a, in_file_b, is_row_a, exchange_of};
 
-use qpu_word::Place;
-use qpu_word::code::{ROWS, WRITE_DMA_ADDRESS, WRITE_R5, WRITE_VPM_SETUP};
-
-/// Whether a write address is another place in file A than in file B.
-pub(crate) fn file_matters(address: u32) -> bool
-    ensures { result ≡ file_matters address }
-{
-    address < ROWS
-        || address == WRITE_R5
-        || address == WRITE_VPM_SETUP
-        || address == WRITE_DMA_ADDRESS
-}
+use qpu_word::code::ROWS;
+use qpu_word::{Place, file_matters};
 
 /// The target of a write address of file A or B.
 #[tactic(auto, unfolding(crate::specs::Targets::target_of))]

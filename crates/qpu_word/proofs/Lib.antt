@@ -6,3 +6,4 @@ pub mod AloneLemmas
 pub mod NeedLemmas
 pub mod BookLemmas
 pub mod NameLemmas
+pub mod CanonicalLemmas

@@ -8,6 +8,9 @@ pub mod Processor
 pub mod Fit
 pub mod Setups
 pub mod Form
+pub mod Packed
+pub mod Canonical
+pub mod CanonicalWord
 pub mod Needs
 pub mod Names
 pub mod Books

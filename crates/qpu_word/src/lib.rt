@@ -8,6 +8,8 @@
 mod activity;
 mod book;
 mod byte;
+mod canonical;
+mod canonical_word;
 pub mod code;
 mod fault;
 mod form;
@@ -17,6 +19,7 @@ mod memory;
 mod name;
 mod needs;
 mod operation;
+mod packed;
 mod port;
 mod program;
 mod reading;
@@ -26,6 +29,7 @@ mod traffic;
 mod word;
 
 pub use byte::{byte_of, number_of};
+pub use canonical::file_matters;
 pub use fault::{FaultKind, SetupFault, WordFault};
 pub use form::Form;
 pub use lanes::{LANES, Lanes, with_lane};

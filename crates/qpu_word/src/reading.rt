@@ -20,7 +20,7 @@ impl Fields {
     }
 
     /// Whether the add unit's operation doesn't use its second operand.
-    fn is_unary(&self) -> bool
+    pub(crate) fn is_unary(&self) -> bool
         ensures { result ≡ is_unary self.now.op_add }
     {
         self.op_add == NOT || self.op_add == CLZ

@@ -1,10 +1,13 @@
-//! Which words are canonical.
-ghost use Rattle.std.specs.Prelude.{◌≡◌};
-ghost use Rattle.qpu_line.specs.Canonical.{unit_rule, add_rule, mul_rule, operand_rule, flags_rule, exchange_rule, row_rule, small_rule, load_rule, semaphore_rule, branch_rule, keeps_rules};
+//! Which words are canonical: none of their fields says anything that has no effect. The rules are
+//! this project's own.
+ghost use Rattle.std.specs.Prelude.{◌≡◌, ◌↔◌, IsTrue};
+ghost use Rattle.qpu_word.specs.Canonical.{file_matters, unit_rule, add_rule, mul_rule, operand_rule, flags_rule, exchange_rule, row_rule, small_rule, load_rule, semaphore_rule, branch_rule, keeps_rules, is_canonical, IsCanonical};
 
-use crate::target::file_matters;
-use qpu_word::Fields;
-use qpu_word::code::{MUX_FILE_A, MUX_FILE_B, NOWHERE, ROTATE_BY_R5, ROWS};
+use crate::code::{
+    MUX_FILE_A, MUX_FILE_B, NOWHERE, ROTATE_BY_R5, ROWS, WRITE_DMA_ADDRESS, WRITE_R5,
+    WRITE_VPM_SETUP,
+};
+use crate::word::{Fields, Word};
 
 /// The condition always.
 const ALWAYS: u32 = 1;
@@ -16,6 +19,17 @@ const CLZ: u32 = 24;
 
 /// Immediates of semaphore words lie below.
 const SEMAPHORE_IMMEDIATES: u32 = 32;
+
+/// Whether a write address is another place in file A than in file B (Guide, "QPU Register Address
+/// Map").
+pub fn file_matters(address: u32) -> bool
+    ensures { result ≡ file_matters address }
+{
+    address < ROWS
+        || address == WRITE_R5
+        || address == WRITE_VPM_SETUP
+        || address == WRITE_DMA_ADDRESS
+}
 
 /// Whether a unit's fields say nothing without effect.
 fn unit_rule(active: bool, op: u32, cond: u32, address: u32, x: u32, y: u32) -> bool
@@ -142,19 +156,40 @@ fn branch_rule(f: &Fields) -> bool
     !f.is_branch() || (f.kind == 0 && (f.reg == 1 || f.raddr_br == 0))
 }
 
-/// Whether a word's fields keep all rules.
-#[tactic(auto, unfolding(crate::specs::Canonical::keeps_rules))]
-pub(crate) fn keeps_rules(f: &Fields) -> bool
-    ensures { result ≡ keeps_rules f.now }
+impl Fields {
+    /// Whether the fields keep all rules of canonical words.
+    #[tactic(auto, unfolding(crate::specs::Canonical::keeps_rules))]
+    pub fn keeps_rules(&self) -> bool
+        ensures { result ≡ keeps_rules self.now }
+    {
+        add_rule(self)
+            && mul_rule(self)
+            && operand_rule(self)
+            && flags_rule(self)
+            && exchange_rule(self)
+            && row_rule(self)
+            && small_rule(self)
+            && load_rule(self)
+            && semaphore_rule(self)
+            && branch_rule(self)
+    }
+}
+
+/// Whether a word is in the profile and keeps all rules.
+#[tactic(auto, unfolding(crate::specs::Canonical::is_canonical))]
+fn is_ruled(word: Word) -> bool
+    ensures { result ≡ is_canonical word.0 }
 {
-    add_rule(f)
-        && mul_rule(f)
-        && operand_rule(f)
-        && flags_rule(f)
-        && exchange_rule(f)
-        && row_rule(f)
-        && small_rule(f)
-        && load_rule(f)
-        && semaphore_rule(f)
-        && branch_rule(f)
+    word.form().is_ok() && word.fields().keeps_rules()
+}
+
+impl Word {
+    /// Whether it is the canonical word of its meaning: it is in the profile, and none of its
+    /// fields says anything that has no effect (this project's own).
+    pub fn is_canonical(self) -> bool
+        ensures exact { result ≡ is_canonical self.0 }
+        ensures canonical { IsTrue result ↔ IsCanonical self.0 }
+    {
+        is_ruled(self)
+    }
 }
