@@ -46,4 +46,6 @@ pub use traffic::{Ins, Outs};
 pub use word::{Fields, Word};
 
 #[cfg(test)]
+mod canonical_tests;
+#[cfg(test)]
 mod tests;
