@@ -15,3 +15,8 @@ pub mod OwnFields
 pub mod PlainForms
 pub mod CanonicalLemmas
 pub mod CanonicalLaw
+pub mod Alike
+pub mod SameMeaning
+pub mod AlikeUnits
+pub mod AlikePlain
+pub mod MeaningLaw

@@ -1,8 +1,8 @@
 -- The fields of a packed word are those that it was packed from, and a word is packed from its own
 -- fields.
-use Rattle.std.proofs.Common.{◌≡◌, ℕ, ◌<◌, ◌^◌, arith}
+use Rattle.std.proofs.Common.{◌≡◌, ℕ, ◌%◌, ◌<◌, ◌^◌, arith}
 use Rattle.qpu_word.specs.declared.word.Fields.{Fields}
-use Rattle.qpu_word.specs.Words.{fields_of}
+use Rattle.qpu_word.specs.Words.{field, fields_of}
 use Rattle.qpu_word.specs.Packed.{unit_word, immediate_word, branch_word}
 
 -- ALU and small immediate words
@@ -212,3 +212,12 @@ branch_hold c h =
 pub branch_back : (w : ℕ) → w < 2 ^ 64 → branch_word (fields_of w) ≡ w
 unfolding branch_word
 branch_back w below = omega arith
+
+-- the direction and the number of a semaphore word
+pub down_hold : (w : ℕ) (c : Fields) → c.immediate ≡ field w 0 32 % 2 ^ 5 → field (immediate_word c) 4 1 ≡ field w 4 1
+unfolding immediate_word
+down_hold w c is = omega arith
+
+pub number_hold : (w : ℕ) (c : Fields) → c.immediate ≡ field w 0 32 % 2 ^ 5 → field (immediate_word c) 0 4 ≡ field w 0 4
+unfolding immediate_word
+number_hold w c is = omega arith

@@ -45,6 +45,7 @@ pub record LoadActs (f g : Fields) : Type 0 where
   pub own_sig : f.sig ≡ 14
   pub load : is_load g ≡ true
   pub semaphore : is_semaphore g ≡ false
+  pub own_semaphore : is_semaphore f ≡ false
   pub add : add_writes g ≡ add_writes f
   pub mul : mul_writes g ≡ mul_writes f
 
@@ -83,6 +84,7 @@ load_acts f g h is =
       own_sig = own.0;
       load = is';
       semaphore = rw (known.0, known.1) refl;
+      own_semaphore = rw (own.0, own.1) refl;
       add = add_as f g h is is' known.0 own.0;
       mul = mul_as f g h is is' known.0 own.0;
     }
@@ -138,7 +140,7 @@ load_by true false ca ta cm tm = refl
 load_by false true ca ta cm tm = refl
 load_by false false ca ta cm tm = refl
 
-load_matters : (f : Fields) → f.sig ≡ 14 → exchange_matters f ≡ ((add_writes f && file_matters f.waddr_add) || (mul_writes f && file_matters f.waddr_mul))
+pub load_matters : (f : Fields) → f.sig ≡ 14 → exchange_matters f ≡ ((add_writes f && file_matters f.waddr_add) || (mul_writes f && file_matters f.waddr_mul))
 load_matters f sig = rw sig refl
 
 load_exchanges : (f g : Fields) → HoldsImmediate g (canonical_load f) → LoadActs f g → exchange_rule g ≡ true
@@ -181,7 +183,7 @@ pub record SemaphoreActs (g : Fields) (n : ℕ) : Type 0 where
 pub semaphore_by : (sig kind : ℕ) → ((sig == 14) && (kind == 4)) ≡ true → (sig ≡ 14) × (kind ≡ 4)
 semaphore_by sig kind is = (grind (arith, nat_tests, is), grind (arith, nat_tests, is))
 
-target_by : (is : Bool) (add mul : ℕ) → (is && not ((add == 39) && (mul == 39))) ≡ false → is ≡ true → (add ≡ 39) × (mul ≡ 39)
+pub target_by : (is : Bool) (add mul : ℕ) → (is && not ((add == 39) && (mul == 39))) ≡ false → is ≡ true → (add ≡ 39) × (mul ≡ 39)
 target_by is add mul none there = (grind (arith, nat_tests, none, there), grind (arith, nat_tests, none, there))
 
 pub semaphore_acts : (f g : Fields) → HoldsImmediate g (canonical_semaphore f) → is_semaphore f ≡ true → has_fault f SemaphoreTarget ≡ false → SemaphoreActs g f.immediate

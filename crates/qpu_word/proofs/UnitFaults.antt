@@ -189,7 +189,7 @@ packing_by : (pm eighth packed row row' unpacked far used far' : Bool) → (pm |
     → (false || eighth || (packed && not row') || (unpacked && (far' || not used))) ≡ false
 packing_by pm eighth packed row row' unpacked far used far' none kept near = grind (arith, none, kept, near)
 
-unit_packing : (unit bad immediate : Bool) → ((unit && bad) || immediate) ≡ false → unit ≡ true → bad ≡ false
+pub unit_packing : (unit bad immediate : Bool) → ((unit && bad) || immediate) ≡ false → unit ≡ true → bad ≡ false
 unit_packing true false immediate none is = refl
 unit_packing true true immediate none is = absurd (cc)
 unit_packing false bad immediate none is = absurd (cc)
