@@ -7,6 +7,7 @@ mod cause;
 mod committing;
 mod did;
 mod executing;
+mod laws;
 mod moving;
 mod pending;
 mod reading;
@@ -16,4 +17,5 @@ mod starts;
 
 pub use cause::Cause;
 pub use did::Did;
+pub use laws::canonical_words_have_one_meaning;
 pub use shared::Shared;

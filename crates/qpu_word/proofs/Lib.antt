@@ -6,4 +6,17 @@ pub mod AloneLemmas
 pub mod NeedLemmas
 pub mod BookLemmas
 pub mod NameLemmas
+pub mod PackedLemmas
+pub mod UnitFields
+pub mod FaultLemmas
+pub mod UnitFaults
+pub mod UnitRules
+pub mod OwnFields
+pub mod PlainForms
 pub mod CanonicalLemmas
+pub mod CanonicalLaw
+pub mod Alike
+pub mod SameMeaning
+pub mod AlikeUnits
+pub mod AlikePlain
+pub mod MeaningLaw

@@ -1,8 +1,7 @@
 //! The canonical word of a word's meaning: what each of its fields holds, form by form. This is the
 //! project's own.
-ghost use Rattle.std.specs.Prelude.{◌≡◌, ◌%◌, ◌^◌, IsErr};
-ghost use Rattle.qpu_word.specs.Words.{IsInProfile};
-ghost use Rattle.qpu_word.specs.Form.{word_form};
+ghost use Rattle.std.specs.Prelude.{◌≡◌, IsSome};
+ghost use Rattle.qpu_word.specs.Words.{word_fault, IsInProfile};
 ghost use Rattle.qpu_word.specs.Canonical.{IsCanonical};
 ghost use Rattle.qpu_word.specs.CanonicalWord.{exchange_matters, code_acts, said_by, address_by, cond_by, row_by, canonical_signal, canonical_row_b, canonical_exchange, second_by, canonical_units, canonical_load, canonical_semaphore, canonical_branch, canonical_of_form, canonical_word};
 
@@ -206,16 +205,26 @@ impl Fields {
     }
 }
 
+/// The canonical word of a word, by its form; a word without one itself.
+#[tactic(auto, unfolding(crate::specs::CanonicalWord::canonical_word))]
+fn canonical_word(word: Word) -> Word
+    ensures { result.0 ≡ canonical_word word.0 }
+{
+    match word.form() {
+        Ok(form) => word.fields().canonical_of_form(form),
+        Err(_) => word,
+    }
+}
+
 impl Word {
-    /// The canonical word of the same meaning (this project's own). A word outside the profile is
-    /// given back.
-    #[tactic(auto, unfolding(crate::specs::CanonicalWord::canonical_word))]
+    /// The canonical word of the same meaning (this project's own): that of a word of the profile is
+    /// canonical, and a canonical word is its own. A word outside the profile is given back.
     pub fn canonical_of(self) -> Word
         ensures exact { result.0 ≡ canonical_word self.0 }
+        ensures canonical { IsInProfile self.0 → IsCanonical result.0 }
+        ensures own { IsCanonical self.0 → result.0 ≡ self.0 }
+        ensures outside { IsSome (word_fault self.0) → result.0 ≡ self.0 }
     {
-        match self.form() {
-            Ok(form) => self.fields().canonical_of_form(form),
-            Err(_) => self,
-        }
+        canonical_word(self)
     }
 }

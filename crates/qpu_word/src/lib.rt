@@ -33,7 +33,7 @@ pub use canonical::file_matters;
 pub use fault::{FaultKind, SetupFault, WordFault};
 pub use form::Form;
 pub use lanes::{LANES, Lanes, with_lane};
-pub use laws::books_stay_sound;
+pub use laws::{books_stay_sound, canonical_words_do_the_same};
 pub use memory::NoMemory;
 pub use name::{Place, read_address, read_name, write_address, write_name};
 pub use needs::Needs;
@@ -45,5 +45,7 @@ pub use state::{Flags, Halt, Rest};
 pub use traffic::{Ins, Outs};
 pub use word::{Fields, Word};
 
+#[cfg(test)]
+mod canonical_tests;
 #[cfg(test)]
 mod tests;
