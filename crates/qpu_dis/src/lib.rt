@@ -14,3 +14,5 @@ mod units;
 
 pub use line::{disassemble, line_of};
 
+#[cfg(test)]
+mod tests;
