@@ -24,7 +24,7 @@ mod units;
 pub use branch::Branch;
 pub use instruction::Instruction;
 pub use laws::{
-    a_mux_of_an_idle_unit_is_refused, branches_come_back, loads_come_back,
+    a_mux_of_an_idle_unit_is_refused, branches_come_back, loads_come_back, names_come_back,
     one_instruction_has_one_word, semaphores_come_back, units_come_back, words_come_back,
 };
 pub use load::{Load, LoadKind, Write};
