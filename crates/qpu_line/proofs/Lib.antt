@@ -1,4 +1,5 @@
 pub mod RuleLemmas
+pub mod NameLaw
 pub mod PackLemmas
 pub mod TargetLemmas
 pub mod FormLemmas

@@ -1,5 +1,5 @@
 -- This project's own: which name a text is.
-use Rattle.std.specs.Prelude.{ℕ, ◌+◌, ◌-◌, ◌*◌, ◌==◌, ◌&&◌, Bool, nat_eq, nat_le, List, [], ◌∷◌, find, Option, Some, None, option_map, if◌then◌else◌}
+use Rattle.std.specs.Prelude.{ℕ, ◌+◌, ◌-◌, ◌*◌, ◌<◌, ◌⊎◌, ◌==◌, ◌&&◌, Bool, nat_eq, nat_le, Contains, List, [], ◌∷◌, find, Option, Some, None, option_map, if◌then◌else◌}
 use Rattle.std.specs.Cmp.Lexicographic.{pointwise}
 use Rattle.qpu_line.specs.declared.name.Name.{Name}
 use Rattle.qpu_line.specs.declared.name.Name.TheVariants.{Register as RegisterName}
@@ -41,3 +41,13 @@ row_or (Some row) other = Some (RegisterName row)
 -- the name that a text is
 unfoldable pub name_of : List ℕ → Option Name
 name_of text = row_or (register_of text) (found_in WORDS text)
+
+-- a row that there is
+abbrev pub IsRowName : Name → Type 0
+IsRowName (RegisterName (RowA n)) = n < 32
+IsRowName (RegisterName (RowB n)) = n < 32
+IsRowName _ = ⊥
+
+-- the names of the language: those of rows, and the others
+abbrev pub IsNameOfLanguage : Name → Type 0
+IsNameOfLanguage n = IsRowName n ⊎ Contains WORDS n

@@ -15,6 +15,9 @@ ghost use Rattle.qpu_word.specs.Words.{is_write_address};
 ghost use Rattle.qpu_line.specs.Worded.{IsBranch, IsLoad, IsSemaphore};
 ghost use Rattle.qpu_word.specs.Canonical.{IsCanonical};
 ghost use Rattle.qpu_line.specs.Canonical.{canonical_instruction};
+ghost use Rattle.qpu_line.specs.declared.name.Name.{Name as NameOf};
+ghost use Rattle.qpu_line.specs.Spellings.{spelling};
+ghost use Rattle.qpu_line.specs.Names.{name_of, IsNameOfLanguage};
 
 /// A canonical word is the word of its instruction.
 #[tactic(auto, using(crate::proofs::WordLaw::word_back))]
@@ -89,4 +92,10 @@ pub fn targets_have_names()
 #[tactic(auto, using(crate::proofs::WordTrials::no_nop))]
 pub fn a_mux_of_an_idle_unit_is_refused()
     ensures { canonical_instruction 0x100009e7009e7001 ≡ None }
+{}
+
+/// Every name of the language is read back from its spelling, so no two have the same.
+#[tactic(auto, using(crate::proofs::NameLaw::names_back))]
+pub fn names_come_back()
+    ensures { (n : NameOf) → IsNameOfLanguage n → name_of (spelling n) ≡ Some n }
 {}

@@ -6,3 +6,6 @@ pub mod ReadLemmas
 pub mod SpanLaw
 mod CutLaw
 pub mod AnswerLaw
+mod WrittenLemmas
+mod WrittenSteps
+pub mod WrittenLaw

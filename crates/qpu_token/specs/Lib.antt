@@ -5,3 +5,4 @@ pub mod Tokens
 pub mod Faults
 pub mod Reading
 pub mod OneAnswer
+pub mod Written

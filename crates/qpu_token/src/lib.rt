@@ -17,7 +17,7 @@ mod token;
 mod turn;
 
 pub use fault::{AsmFault, AsmKind};
-pub use laws::one_answer;
+pub use laws::{one_answer, written_texts_have_their_tokens};
 pub use reading::tokens;
 pub use token::{MOST_BYTES, Token, TokenKind};
 

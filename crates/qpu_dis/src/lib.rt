@@ -1,0 +1,18 @@
+//! The disassembler: the one line of each canonical word, and a directive for each other word.
+//!
+//! What a line has, in which order and where its spaces stand is told by qpu_line; here it is
+//! written.
+#![tactic(auto)]
+
+mod bit;
+mod branch;
+mod figure;
+mod line;
+mod load;
+mod place;
+mod units;
+
+pub use line::{disassemble, line_of};
+
+#[cfg(test)]
+mod tests;
