@@ -24,9 +24,9 @@ pub use branch::Branch;
 pub use instruction::Instruction;
 pub use laws::{
     a_mux_of_an_idle_unit_is_refused, branches_come_back, canonical_words_are_named,
-    instructions_come_back, loads_come_back, names_come_back, one_instruction_has_one_word, semaphores_come_back,
-    sources_have_names, targets_have_names, units_are_canonical, units_come_back, words_come_back,
-    words_fit,
+    instructions_come_back, loads_come_back, names_come_back, one_instruction_has_one_word,
+    semaphores_come_back, sources_have_names, targets_have_names, units_are_canonical,
+    units_come_back, words_come_back, words_fit,
 };
 pub use load::{Load, LoadKind, Write};
 pub use name::{Name, Register};
