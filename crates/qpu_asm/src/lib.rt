@@ -1,6 +1,7 @@
 //! The assembler's last stage, and the assembler whole.
 #![tactic(auto)]
 
+mod assembly;
 mod expression;
 mod judge;
 mod line;
