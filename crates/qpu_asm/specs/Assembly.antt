@@ -43,11 +43,13 @@ line_at text labels at line = read_line at (end_of line) (map (placed text label
 abbrev pub word_behind : List ℕ → Labels → List Token → List ℕ → Result (List ℕ) AsmFault
 word_behind text labels line words = and_then (line_at text labels (length words) line) (λ l. Ok (words ++ word_in l ∷ []))
 
-abbrev pub words_on : List ℕ → Labels → Result (List ℕ) AsmFault → List Token → Result (List ℕ) AsmFault
-words_on text labels read line = and_then read (word_behind text labels line)
+abbrev pub words_of_lines : List ℕ → Labels → List ℕ → List (List Token) → Result (List ℕ) AsmFault
+words_of_lines text labels words [] = Ok words
+words_of_lines text labels words (line ∷ lines) =
+    and_then (word_behind text labels line words) (λ more. words_of_lines text labels more lines)
 
 unfoldable pub encoding : List ℕ → Left → Result (List ℕ) AsmFault
-encoding text left = fold (words_on text (labels_of text left.labels)) (Ok []) left.lines
+encoding text left = words_of_lines text (labels_of text left.labels) [] left.lines
 
 -- the words of a text whose tokens these are
 abbrev pub assembled : List ℕ → List Token → Result (List ℕ) AsmFault

@@ -1,9 +1,9 @@
 //! Texts into words.
-ghost use Rattle.std.specs.Prelude.{◌≡◌, ◌≤◌, length, map, slice_range, IfOk, IfErr, OnOk};
+ghost use Rattle.std.specs.Prelude.{◌≡◌, ◌<◌, ◌≤◌, [], length, map, ◌∷◌, ◌++◌, slice_range, IfOk, IfErr, OnOk};
 ghost use Rattle.qpu_expr.specs.Expansion.{Left};
 ghost use Rattle.qpu_asm.specs.Placed.{placed};
-ghost use Rattle.qpu_asm.specs.Answers.{Answers};
-ghost use Rattle.qpu_asm.specs.Assembly.{label_put, labels_of, end_of, line_at, word_behind, words_on, encoding, AreWords, IsItsFault};
+ghost use Rattle.qpu_asm.specs.Answers.{Answers, Leads};
+ghost use Rattle.qpu_asm.specs.Assembly.{label_put, labels_of, end_of, line_at, word_behind, words_of_lines, encoding, AreWords, IsItsFault};
 
 use crate::line::{Line, read_line};
 use crate::placed::{Placed, symbol_of, text_of};
@@ -112,6 +112,14 @@ impl Model for Words {
 }
 
 impl Words {
+    /// Puts a word behind the others.
+    fn push(&mut self, word: Word) -> Result<(), AllocError>
+        ensures { OnOk result (self.new ≡ self.old ++ word.0 ∷ []) }
+    {
+        self.words.push(word)?;
+        Ok(())
+    }
+
     /// Puts the word of a line behind the others.
     fn put(
         &mut self,
@@ -120,28 +128,43 @@ impl Words {
         labels: &Table<u32>,
         line: &[Token],
     ) -> Result<(), Stop>
+        requires { length self.old < 4096 }
         ensures { Leads (word_behind text.now labels.now line.now self.old) self.new result }
     {
         let at = self.words.len() as u32;
         let said = line_at(alloc, text, labels, at, line)?;
-        self.words.push(Word(said.word()))?;
+        self.push(Word(said.word()))?;
         Ok(())
     }
 }
 
-/// The words of lines.
-#[tactic(auto, unfolding(crate::specs::Assembly::encoding))]
-fn encode(alloc: Global, text: &[u8], expanded: &Expanded) -> Result<Words, Stop>
-    ensures { Answers (encoding text.now (record { lines = expanded.now.lines.items; labels = expanded.now.labels.items })) result }
+/// The words of lines, with the words behind labels.
+fn encode_lines(
+    alloc: Global,
+    text: &[u8],
+    labels: &Table<u32>,
+    lines: &[PlainLine],
+) -> Result<Words, Stop>
+    requires { length lines.now ≤ 4096 }
+    ensures { Answers (words_of_lines text.now labels.now [] lines.now) result }
 {
-    let labels = labels_of(alloc, text, &expanded.labels)?;
     let mut words = Words {
         words: Vec::new(alloc),
     };
-    for line in &expanded.lines {
-        words.put(alloc, text, &labels, &line.tokens)?;
+    for line in lines {
+        words.put(alloc, text, labels, &line.tokens)?;
     }
     Ok(words)
+}
+
+/// The words of what is left of a text.
+#[tactic(auto, unfolding(crate::specs::Assembly::encoding))]
+fn encode(alloc: Global, text: &[u8], expanded: &Expanded) -> Result<Words, Stop>
+    requires { length expanded.now.lines.items ≤ 4096 }
+    ensures { Answers (encoding text.now (record { lines = expanded.now.lines.items; labels = expanded.now.labels.items })) result }
+{
+    let labels = labels_of(alloc, text, &expanded.labels)?;
+    encode_lines(alloc, text, &labels, &expanded.lines)
 }
 
 /// The words of a text of at most `MOST_BYTES` bytes, in order. The one error beside want of memory is
