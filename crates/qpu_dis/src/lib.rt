@@ -7,11 +7,13 @@
 mod bit;
 mod branch;
 mod figure;
+mod laws;
 mod line;
 mod load;
 mod place;
 mod units;
 
+pub use laws::lines_have_their_tokens;
 pub use line::{disassemble, line_of};
 
 #[cfg(test)]
