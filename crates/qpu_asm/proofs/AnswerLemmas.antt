@@ -1,6 +1,6 @@
 -- What is answered for a text, from what its stages answer.
-use Rattle.std.proofs.Common.{◌≡◌, ◌≢◌, ◌⊎◌, ℕ, List, map, sym, ◌∙◌, ap, subst, refl, Ok, Err, length, Bool, true, false, true≢false}
-use Rattle.std.specs.Prelude.{inl, inr, Result}
+use Rattle.std.proofs.Common.{◌≡◌, ◌≢◌, ◌⊎◌, ℕ, List, map, sym, ◌∙◌, ap, subst, refl, Ok, Err, length, Bool, true, false, true≢false, inl, inr}
+use Rattle.std.specs.Prelude.{Result}
 use Rattle.qpu_word.specs.declared.word.Word.{Word}
 use Rattle.qpu_token.specs.declared.token.Token.{Token}
 use Rattle.qpu_token.specs.declared.fault.AsmKind.{AsmKind}
@@ -15,7 +15,7 @@ use Rattle.qpu_asm.specs.declared.stop.Stop.TheVariants.{Fault, Memory}
 use Rattle.qpu_asm.specs.Answers.{answered, StopsAt}
 use Rattle.qpu_asm.specs.Assembly.{and_then, encoding, assembled, IsAssembly, IsItsFault}
 
-is_memory : AsmKind → Bool
+abbrev is_memory : AsmKind → Bool
 is_memory kind.Memory = true
 is_memory _ = false
 

@@ -1,5 +1,6 @@
 //! Texts into words.
 ghost use Rattle.std.specs.Prelude.{◌≡◌, ◌<◌, ◌≤◌, [], length, map, ◌∷◌, ◌++◌, slice_range, IfOk, IfErr, OnOk};
+ghost use Rattle.qpu_token.specs.Tokens.{AreTokens};
 ghost use Rattle.qpu_expr.specs.Expansion.{Left};
 ghost use Rattle.qpu_asm.specs.Placed.{placed};
 ghost use Rattle.qpu_asm.specs.Answers.{Answers, Leads};
@@ -167,18 +168,33 @@ fn encode(alloc: Global, text: &[u8], expanded: &Expanded) -> Result<Words, Stop
     encode_lines(alloc, text, &labels, &expanded.lines)
 }
 
+/// The words of a text with its tokens.
+#[tactic(auto, using(crate::proofs::AnswerLemmas::expansion_fault, crate::proofs::AnswerLemmas::words_due, crate::proofs::AnswerLemmas::stop_due))]
+fn assemble_tokens(alloc: Global, text: &str, tokens: &[Token]) -> Result<Vec<Word>, AsmFault>
+    requires { AreTokens text.now tokens.now }
+    ensures ok { IfOk result (λ words. AreWords text.now words.items) }
+    ensures err { IfErr result (λ fault. IsItsFault text.now fault) }
+{
+    match expand(alloc, text, tokens) {
+        Err(fault) => Err(fault),
+        Ok(expanded) => match encode(alloc, text.as_bytes(), &expanded) {
+            Ok(words) => Ok(words.words),
+            Err(stop) => Err(stop.fault()),
+        },
+    }
+}
+
 /// The words of a text of at most `MOST_BYTES` bytes, in order. The one error beside want of memory is
 /// the first fault of the text, with its kind and place: of its tokens, then of its expansion, then of
 /// the lines that are left.
+#[tactic(auto, using(crate::proofs::AnswerLemmas::token_fault))]
 pub fn assemble(alloc: Global, text: &str) -> Result<Vec<Word>, AsmFault>
     requires { length text.now ≤ MOST_BYTES }
     ensures ok { IfOk result (λ words. AreWords text.now words.items) }
     ensures err { IfErr result (λ fault. IsItsFault text.now fault) }
 {
-    let tokens = tokens(alloc, text)?;
-    let expanded = expand(alloc, text, &tokens)?;
-    match encode(alloc, text.as_bytes(), &expanded) {
-        Ok(words) => Ok(words.words),
-        Err(stop) => Err(stop.fault()),
+    match tokens(alloc, text) {
+        Err(fault) => Err(fault),
+        Ok(tokens) => assemble_tokens(alloc, text, &tokens),
     }
 }

@@ -15,3 +15,5 @@ mod placed;
 mod roles;
 mod section;
 mod stop;
+
+pub use assembly::assemble;
