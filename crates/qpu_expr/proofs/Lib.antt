@@ -5,3 +5,7 @@ pub mod RoomLemmas
 pub mod RunLemmas
 pub mod TableLemmas
 pub mod OnlyTreeLaw
+pub mod KeepLemmas
+pub mod DeedLemmas
+pub mod CountLemmas
+pub mod FewLemmas
