@@ -1,6 +1,7 @@
 //! Texts into words.
 ghost use Rattle.std.specs.Prelude.{◌≡◌, ◌<◌, ◌≤◌, [], length, map, ◌∷◌, ◌++◌, slice_range, IfOk, IfErr, OnOk};
 ghost use Rattle.qpu_token.specs.Tokens.{AreTokens};
+ghost use Rattle.qpu_expr.specs.declared.limits.TheConstants.{MOST_WORDS};
 ghost use Rattle.qpu_expr.specs.Expansion.{Left};
 ghost use Rattle.qpu_asm.specs.Placed.{placed};
 ghost use Rattle.qpu_asm.specs.Answers.{Answers, Leads};
@@ -129,7 +130,7 @@ impl Words {
         labels: &Table<u32>,
         line: &[Token],
     ) -> Result<(), Stop>
-        requires { length self.old < 4096 }
+        requires { length self.old < MOST_WORDS }
         ensures { Leads (word_behind text.now labels.now line.now self.old) self.new result }
     {
         let at = self.words.len() as u32;
@@ -146,7 +147,7 @@ fn encode_lines(
     labels: &Table<u32>,
     lines: &[PlainLine],
 ) -> Result<Words, Stop>
-    requires { length lines.now ≤ 4096 }
+    requires { length lines.now ≤ MOST_WORDS }
     ensures { Answers (words_of_lines text.now labels.now [] lines.now) result }
 {
     let mut words = Words {
@@ -161,7 +162,7 @@ fn encode_lines(
 /// The words of what is left of a text.
 #[tactic(auto, unfolding(crate::specs::Assembly::encoding))]
 fn encode(alloc: Global, text: &[u8], expanded: &Expanded) -> Result<Words, Stop>
-    requires { length expanded.now.lines.items ≤ 4096 }
+    requires { length expanded.now.lines.items ≤ MOST_WORDS }
     ensures { Answers (encoding text.now (record { lines = expanded.now.lines.items; labels = expanded.now.labels.items })) result }
 {
     let labels = labels_of(alloc, text, &expanded.labels)?;
