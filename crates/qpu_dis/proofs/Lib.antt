@@ -8,3 +8,4 @@ pub mod PartLemmas
 pub mod FactLemmas
 pub mod LineLemmas
 pub mod LineLaw
+pub mod TextTrials

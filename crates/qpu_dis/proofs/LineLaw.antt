@@ -1,14 +1,18 @@
 -- The text of words has the tokens of their lines.
-use Rattle.std.proofs.Common.{◌≡◌, ℕ, suc, ◌/◌, ◌%◌, ◌^◌, ◌<◌, inr, false, List, [], ◌∷◌, ◌++◌, map, Option, Some, None, refl, ap, sym, subst, ◌∙◌, append-nil, append_assoc, arith}
+use Rattle.std.proofs.Common.{◌≡◌, ℕ, suc, ◌/◌, ◌%◌, ◌^◌, ◌<◌, inr, false, List, [], ◌∷◌, ◌++◌, map, Option, Some, None, Result, Ok, Err, refl, ap, sym, subst, ◌∙◌, append-nil, append_assoc, arith}
 use Rattle.std.specs.Prelude.{All, codes}
 use Rattle.std.proofs.lemmas.Simd.{map-map}
 use Rattle.qpu_token.specs.declared.token.Token.{Token}
+use Rattle.qpu_token.specs.declared.fault.AsmFault.{AsmFault}
 use Rattle.qpu_token.specs.Words.{number_value}
 use Rattle.qpu_token.specs.Tokens.{text_of, after_text}
 use Rattle.qpu_token.specs.Written.{Item, Name, Number as NumberItem, Sign, Space as SpaceItem, LineFeed, items_text, items_told, Stage, at_first, CanStand, EndsLine, HasTokens}
+use Rattle.qpu_token.specs.OneAnswer.{IsAnswer}
+use Rattle.qpu_token.proofs.AnswerLaw.{one_answer}
 use Rattle.qpu_token.proofs.WrittenLaw.{written_law}
 use Rattle.qpu_io.specs.Text.{hex8}
 use Rattle.qpu_line.specs.declared.instruction.Instruction.{Instruction}
+use Rattle.qpu_line.specs.declared.symbol.Symbol.{Symbol}
 use Rattle.qpu_line.specs.declared.symbol.Symbol.TheVariants as symbol
 use Rattle.qpu_line.specs.declared.name.Name.TheVariants as name
 use Rattle.qpu_line.specs.Spellings.{spelling}
@@ -17,7 +21,7 @@ use Rattle.qpu_line.specs.Canonical.{canonical_instruction}
 use Rattle.qpu_line.specs.Lines.{line_bits}
 use Rattle.qpu_line.proofs.NameLaw.{names_back}
 use Rattle.qpu_dis.specs.Text.{line_or_word, canonical_line, ended_line, disassembly}
-use Rattle.qpu_dis.specs.Tokens.{written_by, line_written, lines_written, IsReadAs}
+use Rattle.qpu_dis.specs.Tokens.{symbol_of, written_by, line_written, lines_written, IsReadAs, IsAnsweredBy}
 use Rattle.qpu_dis.proofs.NumberLemmas.{word_run, word_number}
 use Rattle.qpu_dis.proofs.BitLemmas.{bits_items, items_append, bits_same, told_symbol, told_symbols, symbols_append, bits_told, bits_stand}
 use Rattle.qpu_dis.proofs.LineLemmas.{line_can_stand}
@@ -135,3 +139,20 @@ pub lines_read : (words : List ℕ) → All (λ w. w < 2 ^ 64) words → IsReadA
 lines_read words all =
     let read = read_as (lines_items words) (written_law (lines_items words) (lines_stand words all at_first) (lines_end words)) in
     subst (λ text. IsReadAs text (lines_written words)) (lines_same words) (subst (IsReadAs (items_text (lines_items words))) (lines_told words all) read)
+
+oks : (xs ys : List Token) → ◌≡◌ {A = Result (List Token) AsmFault} (Ok xs) (Ok ys) → xs ≡ ys
+oks xs ys e = cc
+
+no_fault : (f : AsmFault) (ys : List Token) → ◌≡◌ {A = Result (List Token) AsmFault} (Err f) (Ok ys) → ⊥
+no_fault f ys e = cc
+
+-- a text with tokens has no other answer
+answered : (text : List ℕ) (symbols : List Symbol) (answer : Result (List Token) AsmFault) → IsReadAs text symbols → IsAnswer text answer
+    → IsAnsweredBy text symbols answer
+answered text symbols (Ok ts) h is =
+    ap (map (symbol_of text)) (oks ts h.tokens (one_answer text (Ok ts) (Ok h.tokens) is h.are)) ∙ h.symbols_are
+answered text symbols (Err fault) h is = no_fault fault h.tokens (one_answer text (Err fault) (Ok h.tokens) is h.are)
+
+pub lines_answered : (words : List ℕ) (answer : Result (List Token) AsmFault) → All (λ w. w < 2 ^ 64) words
+    → IsAnswer (disassembly words) answer → IsAnsweredBy (disassembly words) (lines_written words) answer
+lines_answered words answer all is = answered (disassembly words) (lines_written words) answer (lines_read words all) is

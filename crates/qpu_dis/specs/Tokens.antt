@@ -1,9 +1,10 @@
 -- This project's own: what the tokens of the disassembler's text are, as they are written: an expression
 -- isn't worked out, so a negative number is a sign and a number.
-use Rattle.std.specs.Prelude.{◌≡◌, ℕ, ◌==◌, List, [], ◌∷◌, ◌++◌, map, flat_map, slice_index, Option, Some, None, if◌then◌else◌}
+use Rattle.std.specs.Prelude.{◌≡◌, ℕ, ◌==◌, List, [], ◌∷◌, ◌++◌, map, flat_map, slice_index, Option, Some, None, Result, Ok, Err, if◌then◌else◌}
 use Rattle.qpu_token.specs.declared.token.TokenKind.{TokenKind}
 use Rattle.qpu_token.specs.declared.token.TokenKind.TheVariants as kind
 use Rattle.qpu_token.specs.declared.token.Token.{Token}
+use Rattle.qpu_token.specs.declared.fault.AsmFault.{AsmFault}
 use Rattle.qpu_token.specs.Tokens.{AreTokens, text_of}
 use Rattle.qpu_line.specs.declared.name.Name.{Name}
 use Rattle.qpu_line.specs.declared.name.Name.TheVariants as name
@@ -77,3 +78,8 @@ pub record IsReadAs (text : List ℕ) (symbols : List Symbol) : Type 0 where
   pub tokens : List Token
   pub are : AreTokens text tokens
   pub symbols_are : map (symbol_of text) tokens ≡ symbols
+
+-- an answer for a text's tokens, want of memory aside: tokens with these symbols, and no fault
+abbrev pub IsAnsweredBy : List ℕ → List Symbol → Result (List Token) AsmFault → Type 0
+IsAnsweredBy text symbols (Ok tokens) = map (symbol_of text) tokens ≡ symbols
+IsAnsweredBy text symbols (Err fault) = ⊥
