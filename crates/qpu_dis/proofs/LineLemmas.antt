@@ -22,7 +22,8 @@ use Rattle.qpu_line.specs.Loads.{kind_of, write_of, load_of, write_target}
 use Rattle.qpu_line.specs.Semaphores.{semaphore_of}
 use Rattle.qpu_line.specs.Branches.{register_of, branch_of}
 use Rattle.qpu_line.specs.Instructions.{instruction_of}
-use Rattle.qpu_line.specs.Canonical.{IsCanonical, canonical_instruction}
+use Rattle.qpu_word.specs.Canonical.{IsCanonical}
+use Rattle.qpu_line.specs.Canonical.{canonical_instruction}
 use Rattle.qpu_line.specs.Lines.{Word, Number, Decimal, Hexadecimal, Space, source_a, source_b, target_bits, pack_bits, add_name, mul_name, condition_bits, branch_condition_bits, flags_bits, and_then, behind, part_bits, add_bits, mul_bits, signal_bits, other_bits, units_bits, write_bits, also_bits, load_bits, semaphore_bits, is_nowhere, link_bits, row_bits, signed_figure, branch_bits, line_bits}
 use Rattle.qpu_line.proofs.RuleLemmas.{read_where_canonical, read_of_canonical}
 use Rattle.qpu_line.proofs.FormLemmas.{plain, immediate_signal, is_a_load}

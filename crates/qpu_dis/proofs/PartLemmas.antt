@@ -14,7 +14,8 @@ use Rattle.qpu_line.specs.declared.name.Name.{Name}
 use Rattle.qpu_line.specs.declared.name.Name.TheVariants as name
 use Rattle.qpu_line.specs.declared.name.Register.TheVariants as register
 use Rattle.qpu_line.specs.Names.{IsNameOfLanguage}
-use Rattle.qpu_line.specs.Targets.{file_matters, target_of}
+use Rattle.qpu_word.specs.Canonical.{file_matters}
+use Rattle.qpu_line.specs.Targets.{target_of}
 use Rattle.qpu_line.specs.Lines.{Figure, Decimal, Word, Number, Space, source_a, source_b, target_bits, suffix, condition_bits, branch_condition_bits, flags_bits, pack_bits, unpack_bits, small_figure, signed_figure, operand_bits, and_then, behind, part_bits, signal_bits, other_bits}
 use Rattle.qpu_dis.specs.Text.{second_bits, rotation_bit}
 use Rattle.qpu_dis.proofs.NameFacts.{is_packed}

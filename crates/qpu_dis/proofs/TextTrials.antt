@@ -9,7 +9,8 @@ use Rattle.qpu_word.specs.Names.{row_name, read_name, write_name}
 use Rattle.qpu_io.specs.Text.{hex8}
 use Rattle.qpu_line.specs.declared.symbol.Symbol.TheVariants as symbol
 use Rattle.qpu_line.specs.declared.name.Name.TheVariants as name
-use Rattle.qpu_line.specs.Canonical.{canonical_instruction, keeps_rules, add_rule, mul_rule, operand_rule, flags_rule, exchange_rule, row_rule, small_rule, load_rule, semaphore_rule, branch_rule}
+use Rattle.qpu_line.specs.Canonical.{canonical_instruction}
+use Rattle.qpu_word.specs.Canonical.{keeps_rules, add_rule, mul_rule, operand_rule, flags_rule, exchange_rule, row_rule, small_rule, load_rule, semaphore_rule, branch_rule}
 use Rattle.qpu_line.specs.Instructions.{instruction_of}
 use Rattle.qpu_line.specs.Targets.{target_of}
 use Rattle.qpu_line.specs.Units.{part_of, signal_of, units_of}
