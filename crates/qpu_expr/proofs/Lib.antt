@@ -9,3 +9,6 @@ pub mod KeepLemmas
 pub mod DeedLemmas
 pub mod CountLemmas
 pub mod FewLemmas
+pub mod EndLemmas
+pub mod StageEndLemmas
+pub mod EndedLemmas
