@@ -1,4 +1,11 @@
-//! The assembler's last stage, and the assembler whole.
+//! The assembler whole, and its last stage: the lines that the expansion leaves are read, judged and
+//! told as words.
+//!
+//! A line is cut at its signs `;` into parts. First its shape is judged: which tokens stand where and
+//! which parts follow which. What the names and numbers of its parts stand for is then marked in the
+//! line's order, and the marks are judged kind by kind; a line without a fault says an instruction
+//! (qpu_line), whose canonical word is the line's. `assemble` answers exactly the words of a text or
+//! exactly its first fault, with its place.
 #![tactic(auto)]
 
 mod assembly;
@@ -17,3 +24,6 @@ mod section;
 mod stop;
 
 pub use assembly::assemble;
+
+#[cfg(test)]
+mod tests;
