@@ -1,1 +1,4 @@
 pub mod SmallLemmas
+pub mod ProperTokens
+pub mod GoodNames
+pub mod MarkLemmas

@@ -3,6 +3,7 @@
 
 mod expression;
 mod judge;
+mod laws;
 mod line;
 mod mark;
 mod marking;
