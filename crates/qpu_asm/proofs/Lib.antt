@@ -4,3 +4,6 @@ pub mod GoodNames
 pub mod MarkLemmas
 pub mod ProperParts
 pub mod ProperLines
+pub mod GrowLemmas
+pub mod TargetLemmas
+pub mod ShortLaws
