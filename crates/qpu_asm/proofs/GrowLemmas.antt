@@ -96,7 +96,7 @@ pub grows_place : (p : Option Place) (token : Token) → Grows (place_mark p tok
 grows_place None token = grows_mark what.Wrong token
 grows_place (Some p) token = grows_mark (what.Writes p) token
 
-grows_pack : (to : Option Place) (s : Option Suffix) → Grows (pack_marks to s)
+pub grows_pack : (to : Option Place) (s : Option Suffix) → Grows (pack_marks to s)
 grows_pack to None = grows_same
 grows_pack to (Some s) = grows_mark_if (not (is_row to && is_pack s.name)) what.Wrong s.dot
 
@@ -224,7 +224,7 @@ grows_jumping b =
     (grows_then (branch_marks b.suffix) (place_mark (if_link (target_place b.to.core)) b.to.token) (grows_branch_condition b.suffix) (grows_place (if_link (target_place b.to.core)) b.to.token))
     (grows_jump_of b.target.core b.target.token b.target.suffix)
 
-grows_rotation : (p : Piece) → Grows (rotation_marks p)
+pub grows_rotation : (p : Piece) → Grows (rotation_marks p)
 grows_rotation p = grows_if (is_r5 p.core) (λ ms. ms) (number_between 1 15 p) grows_same (grows_between 1 15 p)
 
 grows_other_a : (o : Option Operand) (token : Token) → Grows (other_a o token)

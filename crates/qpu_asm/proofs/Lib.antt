@@ -7,3 +7,6 @@ pub mod ProperLines
 pub mod GrowLemmas
 pub mod TargetLemmas
 pub mod ShortLaws
+pub mod OperandMarks
+pub mod UnitMarks
+pub mod ExtraMarks
