@@ -10,3 +10,4 @@ pub mod ShortLaws
 pub mod OperandMarks
 pub mod UnitMarks
 pub mod ExtraMarks
+pub mod SharedFields
