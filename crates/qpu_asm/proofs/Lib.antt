@@ -11,3 +11,4 @@ pub mod OperandMarks
 pub mod UnitMarks
 pub mod ExtraMarks
 pub mod SharedFields
+pub mod UnitsLaw
