@@ -12,3 +12,5 @@ pub mod UnitMarks
 pub mod ExtraMarks
 pub mod SharedFields
 pub mod UnitsLaw
+pub mod LineLaw
+pub mod RawLaw
