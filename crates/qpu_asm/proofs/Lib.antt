@@ -1,2 +1,17 @@
 pub mod SmallLemmas
 pub mod AnswerLemmas
+pub mod ProperTokens
+pub mod GoodNames
+pub mod MarkLemmas
+pub mod ProperParts
+pub mod ProperLines
+pub mod GrowLemmas
+pub mod TargetLemmas
+pub mod ShortLaws
+pub mod OperandMarks
+pub mod UnitMarks
+pub mod ExtraMarks
+pub mod SharedFields
+pub mod UnitsLaw
+pub mod LineLaw
+pub mod RawLaw

@@ -11,6 +11,7 @@
 mod assembly;
 mod expression;
 mod judge;
+mod laws;
 mod line;
 mod mark;
 mod marking;
