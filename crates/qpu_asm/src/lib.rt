@@ -1,6 +1,7 @@
 //! The assembler's last stage, and the assembler whole.
 #![tactic(auto)]
 
+pub mod again;
 mod expression;
 mod judge;
 mod line;
