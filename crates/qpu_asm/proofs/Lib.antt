@@ -18,3 +18,4 @@ pub mod AgainBoth
 pub mod AgainBothSays
 pub mod AgainBothClean
 pub mod AgainLaw
+pub mod AnswerLemmas

@@ -13,3 +13,4 @@ pub mod Judging
 pub mod Meanings
 pub mod Answers
 pub mod LinesRead
+pub mod Assembly

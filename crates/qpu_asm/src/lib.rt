@@ -2,6 +2,7 @@
 #![tactic(auto)]
 
 pub mod again;
+mod assembly;
 mod expression;
 mod judge;
 mod line;
@@ -15,3 +16,5 @@ mod placed;
 mod roles;
 mod section;
 mod stop;
+
+pub use assembly::assemble;
