@@ -8,6 +8,7 @@
 //! exactly its first fault, with its place.
 #![tactic(auto)]
 
+pub mod again;
 mod assembly;
 mod expression;
 mod judge;
