@@ -1,2 +1,3 @@
 pub mod SmallLemmas
 pub mod AnswerLemmas
+pub mod HexLemmas

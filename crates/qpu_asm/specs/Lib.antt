@@ -14,3 +14,4 @@ pub mod Meanings
 pub mod Answers
 pub mod LinesRead
 pub mod Assembly
+pub mod HexLines

@@ -3,6 +3,7 @@
 
 mod assembly;
 mod expression;
+mod hex;
 mod judge;
 mod line;
 mod mark;
@@ -15,5 +16,10 @@ mod placed;
 mod roles;
 mod section;
 mod stop;
+mod words;
 
 pub use assembly::assemble;
+pub use words::words_of;
+
+#[cfg(test)]
+mod hex_tests;
