@@ -91,9 +91,9 @@ head_read sets (Some p) ts is are =
     let spelled : AreSections ((symbol.Name n ∷ ss) ∷ []) ts = subst (λ (z : Name). AreSections ((symbol.Name z ∷ ss) ∷ []) ts) (ap add_name k.found) are in
     let P : Part → Type 0 = λ q. (v : UnitPart) × (q ≡ part.Unit v) × SaysUnit n sets p v in
     let r = one_section P [] n ss ts spelled (due_first n refl)
-        (λ token end rest g.
-            let v = unit_read n (is_unary p.op) sets token end p rest k.one is.twice is.part g in
-            (part.Unit v.0, add_by k.op token end rest ∙ v.1, (v.0, refl, v.2))) in
+    (λ token end rest g.
+    let v = unit_read n (is_unary p.op) sets token end p rest k.one is.twice is.part g in
+    (part.Unit v.0, add_by k.op token end rest ∙ v.1, (v.0, refl, v.2))) in
     let v : UnitPart = r.2.0 in
     (Some v, subst (λ (q : Part). Reads [] ts (q ∷ [])) r.2.1 r.1, (n, v, refl, ap (λ (z : ℕ). Some z) k.code, r.2.2))
 
@@ -134,9 +134,9 @@ mul_read sets (Some p) f ts is are =
     let spelled : AreSections ((symbol.Name n ∷ ss) ∷ []) ts = subst (λ (z : Name). AreSections ((symbol.Name z ∷ ss) ∷ []) ts) k.named are in
     let P : Part → Type 0 = λ q. (v : UnitPart) × (q ≡ part.Unit v) × SaysUnit n sets p v in
     let r = one_section P (head_part f ∷ []) n ss ts spelled (due_behind (head_part f) [] n (head_mul f n p.op k.code))
-        (λ token end rest g.
-            let v = unit_read n false sets token end p rest k.one (λ e. absurd (never e)) is.part g in
-            (part.Unit v.0, k.part token end rest ∙ v.1, (v.0, refl, v.2))) in
+    (λ token end rest g.
+    let v = unit_read n false sets token end p rest k.one (λ e. absurd (never e)) is.part g in
+    (part.Unit v.0, k.part token end rest ∙ v.1, (v.0, refl, v.2))) in
     let v : UnitPart = r.2.0 in
     (Some v, subst (λ (q : Part). Reads (head_part f ∷ []) ts (q ∷ [])) r.2.1 r.1, (n, v, refl, k.code, r.2.2))
 
@@ -247,7 +247,7 @@ plain_read : (s : Signal) (n : Name) (f m : Option UnitPart) (ts : List SectionT
 plain_read s n f m ts are d step =
     let P : Part → Type 0 = λ q. (t : Token) × (q ≡ part.Signal s t) in
     let r = one_section P (head_part f ∷ unit_parts m) n [] ts are (due_behind (head_part f) (unit_parts m) n (head_extra f (unit_parts m) n d))
-        (λ token end rest g. (part.Signal s token, step token end rest g, (token, refl))) in
+    (λ token end rest g. (part.Signal s token, step token end rest g, (token, refl))) in
     (r.2.0, subst (λ (q : Part). Reads (head_part f ∷ unit_parts m) ts (q ∷ [])) r.2.1 r.1)
 
 pub signal_read : (s : Signal) (sets : Bool) (o : Option UnitDoes) (f m : Option UnitPart) (ts : List SectionTokens) → IsNamedSignal s o → SaysActive op_in_mul sets o m
@@ -262,10 +262,10 @@ signal_read Load1 sets o f m ts named says are =
 signal_read (Rotate code) sets o f m ts named says are =
     let P : Part → Type 0 = λ q. (t : Token) × (p : Piece) × (q ≡ part.Rotate t p) × SaysRotation code p in
     let r = one_section P (head_part f ∷ unit_parts m) name.Rotate (turn_symbols code) ts are
-        (due_behind (head_part f) (unit_parts m) name.Rotate (head_extra f (unit_parts m) name.Rotate (turn_extra sets o m named.1 says)))
-        (λ token end rest g.
-            let t = turn_read end code (code == 48) rest refl named.0 g in
-            (part.Rotate token t.0, rotate_step token end rest t.0 t.1, (token, t.0, refl, t.2))) in
+    (due_behind (head_part f) (unit_parts m) name.Rotate (head_extra f (unit_parts m) name.Rotate (turn_extra sets o m named.1 says)))
+    (λ token end rest g.
+    let t = turn_read end code (code == 48) rest refl named.0 g in
+    (part.Rotate token t.0, rotate_step token end rest t.0 t.1, (token, t.0, refl, t.2))) in
     (turned r.2.0 r.2.1, subst (λ (q : Part). Reads (head_part f ∷ unit_parts m) ts (q ∷ [])) r.2.2 r.1, (r.2.0, r.2.1, refl, r.2.3))
 
 -- other reads
@@ -327,9 +327,9 @@ a_read (Some n) f m g ts are =
     let earlier : List Part = unit_parts m ++ told_parts g in
     let P : Part → Type 0 = λ q. (t : Token) × (q ≡ part.ReadA (bare (core.Name (source_a n)) t)) in
     let r = one_section P (head_part f ∷ earlier) name.ReadA (symbol.Name (source_a n) ∷ []) ts are (due_behind (head_part f) earlier name.ReadA (head_extra f earlier name.ReadA (a_extra m g)))
-        (λ token end rest h.
-            let t = last_source end (source_a n) rest h in
-            (part.ReadA (bare (core.Name (source_a n)) t.0), a_step token end rest (bare (core.Name (source_a n)) t.0) t.1, (t.0, refl))) in
+    (λ token end rest h.
+    let t = last_source end (source_a n) rest h in
+    (part.ReadA (bare (core.Name (source_a n)) t.0), a_step token end rest (bare (core.Name (source_a n)) t.0) t.1, (t.0, refl))) in
     (Some (bare (core.Name (source_a n)) r.2.0), subst (λ (q : Part). Reads (head_part f ∷ earlier) ts (q ∷ [])) r.2.1 r.1, (r.2.0, refl))
 
 pub b_read : (o : Option ℕ) (f m : Option UnitPart) (g : Told) (a : Option Piece) (ts : List SectionTokens) → AreSections (other_sections name.ReadB source_b o) ts
@@ -339,9 +339,9 @@ b_read (Some n) f m g a ts are =
     let earlier : List Part = unit_parts m ++ told_parts g ++ a_parts a in
     let P : Part → Type 0 = λ q. (t : Token) × (q ≡ part.ReadB (bare (core.Name (source_b n)) t)) in
     let r = one_section P (head_part f ∷ earlier) name.ReadB (symbol.Name (source_b n) ∷ []) ts are (due_behind (head_part f) earlier name.ReadB (head_extra f earlier name.ReadB (b_extra m g a)))
-        (λ token end rest h.
-            let t = last_source end (source_b n) rest h in
-            (part.ReadB (bare (core.Name (source_b n)) t.0), b_step token end rest (bare (core.Name (source_b n)) t.0) t.1, (t.0, refl))) in
+    (λ token end rest h.
+    let t = last_source end (source_b n) rest h in
+    (part.ReadB (bare (core.Name (source_b n)) t.0), b_step token end rest (bare (core.Name (source_b n)) t.0) t.1, (t.0, refl))) in
     (Some (bare (core.Name (source_b n)) r.2.0), subst (λ (q : Part). Reads (head_part f ∷ earlier) ts (q ∷ [])) r.2.1 r.1, (r.2.0, refl))
 
 -- the whole line
@@ -355,8 +355,8 @@ five : (a b c d e : List Bit) → symbols_of (a ++ b ++ c ++ d ++ e) ≡ symbols
 five a b c d e =
     symbols_append (a ++ b ++ c ++ d) e
     ∙ (ap (λ z. z ++ symbols_of e) (symbols_append (a ++ b ++ c) d)
-        ∙ (ap (λ z. z ++ symbols_of d ++ symbols_of e) (symbols_append (a ++ b) c)
-            ∙ (ap (λ z. z ++ symbols_of c ++ symbols_of d ++ symbols_of e) (symbols_append a b) ∙ right (symbols_of a) (symbols_of b) (symbols_of c) (symbols_of d) (symbols_of e))))
+    ∙ (ap (λ z. z ++ symbols_of d ++ symbols_of e) (symbols_append (a ++ b) c)
+    ∙ (ap (λ z. z ++ symbols_of c ++ symbols_of d ++ symbols_of e) (symbols_append a b) ∙ right (symbols_of a) (symbols_of b) (symbols_of c) (symbols_of d) (symbols_of e))))
   where
     right : (a b c d e : List Symbol) → a ++ b ++ c ++ d ++ e ≡ a ++ (b ++ (c ++ (d ++ e)))
     right a b c d e = simp append_assoc
@@ -375,8 +375,8 @@ units_symbols u =
     let muls : Bool = u.sets && not (is_some u.add) in
     five (add_bits u.sets u.add) (mul_bits muls u.mul) (signal_bits u.signal) (other_bits name.ReadA source_a u.other_a) (other_bits name.ReadB source_b u.other_b)
     ∙ (parts_same _ _ _ _ _ _ _ _ _ _ (head_symbols u.sets u.add) (mul_tails muls u.mul) (signal_tails u.signal) (other_tails name.ReadA source_a u.other_a) (other_tails name.ReadB source_b u.other_b)
-        ∙ ap (λ z. (symbol.Name (head_name u.add) ∷ head_rest u.sets u.add) ++ z)
-        (sym (four (mul_sections muls u.mul) (signal_sections u.signal) (other_sections name.ReadA source_a u.other_a) (other_sections name.ReadB source_b u.other_b))))
+    ∙ ap (λ z. (symbol.Name (head_name u.add) ∷ head_rest u.sets u.add) ++ z)
+    (sym (four (mul_sections muls u.mul) (signal_sections u.signal) (other_sections name.ReadA source_a u.other_a) (other_sections name.ReadB source_b u.other_b))))
 
 -- no sign `;` in a section, and a mnemonic at its front
 

@@ -76,7 +76,7 @@ head_clean s in_b sets adds turns (Some p) f some far named held says =
     let second = holds_of s adds turns false p.b held.second named.part.b (λ t m. absurd (never m)) far in
     rw says.2
     (unit_clean NoTarget (Only p.to) g false sets says.0 p says.1 [] (λ t ns c. clean_first g p.to t ns c) (λ e. sym some) (λ m. absurd (never m)) named.part.pack first second says.4
-        (clean_start NoTarget g))
+    (clean_start NoTarget g))
 
 -- the mul unit's part
 
@@ -101,10 +101,11 @@ mul_clean s sets adds turns add (Some p) m ms far turn held_add named held says 
     let first = holds_of s adds turns true p.a held.first named.part.a (λ t e. (two_true (is_turned p.a) (is_turned p.b) (turn t)).0) far in
     let second = holds_of s adds turns true p.b held.second named.part.b (λ t e. (two_true (is_turned p.a) (is_turned p.b) (turn t)).1) far in
     let written : (t : Token) (ns : List Mark) → Clean (AddTarget add) g ns → Clean AnyTarget g (mark (what.Writes p.to) t ns) =
-    λ t ns d. clean_second (AddTarget add) g p.to t ns (mul_apart s add p.to held_add held.target) d in
-    (AnyTarget,
-    rw says.2
-    (unit_clean (AddTarget add) AnyTarget g true (sets && not adds) says.0 p says.1 ms written (λ e. absurd (never (sym e))) (λ e f. sets_alone sets adds f) named.part.pack first second says.4 c))
+    λ t ns d. clean_second (AddTarget add) g p.to t ns (mul_apart s add p.to held_add held.target) d in (
+      AnyTarget,
+      rw says.2
+          (unit_clean (AddTarget add) AnyTarget g true (sets && not adds) says.0 p says.1 ms written (λ e. absurd (never (sym e))) (λ e f. sets_alone sets adds f) named.part.pack first second says.4 c),
+    )
 
 -- the signal
 

@@ -90,10 +90,11 @@ load_part_read end l xs near h =
     let s = suffixes_read (condition_suffix (write_condition l.add)) l.sets (Space ∷ (target_bits to ++ behind_target)) xs [] h (λ mid g. target_no_dot to behind_target mid [] g) in
     let t = target_core_read end to behind_target s.0 [] s.1 (λ mid g. ends_stops mid (comma_ends (Space ∷ Number (Hexadecimal l.immediate) ∷ []) mid [] g)) in
     let c = comma_read end (Space ∷ Number (Hexadecimal l.immediate) ∷ []) t.0 [] t.1 in
-    let v = value_read end l.immediate c.0 near c.1 in
-    (record { kind = l.kind; suffixes = s.2; to = bare t.2 t.3; value = bare (core.Number l.immediate) v.0 },
-    load_step l.kind end xs s.0 t.0 c.0 s.2 (bare t.2 t.3) (bare (core.Number l.immediate) v.0) s.3 t.4 c.2 v.1,
-    record { kind = refl; suffixes = s.4; to = t.5; value = refl })
+    let v = value_read end l.immediate c.0 near c.1 in (
+      record { kind = l.kind; suffixes = s.2; to = bare t.2 t.3; value = bare (core.Number l.immediate) v.0 },
+      load_step l.kind end xs s.0 t.0 c.0 s.2 (bare t.2 t.3) (bare (core.Number l.immediate) v.0) s.3 t.4 c.2 v.1,
+      record { kind = refl; suffixes = s.4; to = t.5; value = refl },
+    )
 
 -- the second target
 
@@ -148,9 +149,9 @@ also_sections_read None v ts are = (None, no_section (part.Load v ∷ []) ts are
 also_sections_read (Some w) v ts are =
     let P : Part → Type 0 = λ p. (a : AlsoPart) × (p ≡ part.Also a) × Suffixed (condition_suffix w.cond) a.suffix × SaysCore w.to a.to.core in
     let r = one_section P (part.Load v ∷ []) name.Also (symbols_of (also_rest w)) ts are (due_behind (part.Load v) [] name.Also refl)
-        (λ token end rest g.
-            let a = also_read end w rest g in
-            (part.Also a.0, also_part_by token end rest ∙ a.1, (a.0, refl, a.2, a.3))) in
+    (λ token end rest g.
+    let a = also_read end w rest g in
+    (part.Also a.0, also_part_by token end rest ∙ a.1, (a.0, refl, a.2, a.3))) in
     let reads : Reads (part.Load v ∷ []) ts (part.Also r.2.0 ∷ []) = subst (λ (p : Part). Reads (part.Load v ∷ []) ts (p ∷ [])) r.2.1 r.1 in
     (Some r.2.0, reads, (r.2.0, refl, r.2.2, r.2.3))
 
@@ -192,8 +193,8 @@ unfolding meaning load_of_part
 load_says at l v a is says also =
     ap (λ z. instruction.Load z)
     (same_load l v.kind (sets_in v.suffixes) (write_in (place_of v.to.core) v.suffixes.first) (also_in (also_parts a)) (number_of v.value.core) says.kind
-        (sets_back (write_condition l.add) l.sets v.suffixes says.suffixes) (add_back l.add l.sets v.suffixes v.to.core is.add says.suffixes says.to)
-        (also_back l.mul a is.mul also) (ap number_of says.value))
+    (sets_back (write_condition l.add) l.sets v.suffixes says.suffixes) (add_back l.add l.sets v.suffixes v.to.core is.add says.suffixes says.to)
+    (also_back l.mul a is.mul also) (ap number_of says.value))
 
 -- no fault
 
@@ -254,7 +255,7 @@ unfolding load_bits
 load_bits_are l =
     rw (write_is l.add)
     (load_five (Word (name.Load l.kind)) (maybe_suffix (condition_suffix (write_condition l.add))) (flags_bits l.sets) (Space ∷ target_bits (write_target l.add))
-        (and_then (Number (Hexadecimal l.immediate) ∷ [])) (also_bits l.mul))
+    (and_then (Number (Hexadecimal l.immediate) ∷ [])) (also_bits l.mul))
 
 load_symbols : (l : Load) → symbols_of (load_bits l) ≡ (symbol.Name (name.Load l.kind) ∷ symbols_of (rest_bits l)) ++ tails (also_sections l.mul)
 load_symbols l =
@@ -285,20 +286,20 @@ load_read at end l xs is h =
     let spelled : Spelled ((symbol.Name n ∷ symbols_of (rest_bits l)) ++ tails ss) xs [] = subst (λ (z : List Symbol). Spelled z xs []) (load_symbols l) h in
     line_read at end n (symbols_of (rest_bits l)) ss xs (instruction.Load l) (rest_plain l) (also_plain l.mul) refl (also_begins l.mul) spelled
     (λ ts are.
-        let cut = are_append ((symbol.Name n ∷ symbols_of (rest_bits l)) ∷ []) ss ts are in
-        let P : Part → Type 0 = λ p. (v : LoadPart) × (p ≡ part.Load v) × SaysLoad l v in
-        let r = one_section P [] n (symbols_of (rest_bits l)) cut.0 cut.3 (due_first n refl)
-            (λ token last rest g.
-                let v = load_part_read last l rest is.immediate g in
-                (part.Load v.0, load_part_by l.kind token last rest ∙ v.1, (v.0, refl, v.2))) in
-        let v : LoadPart = r.2.0 in
-        let first : Reads [] cut.0 (part.Load v ∷ []) = subst (λ (p : Part). Reads [] cut.0 (p ∷ [])) r.2.1 r.1 in
-        let a = also_sections_read l.mul v cut.1 cut.4 in
-        let whole : Reads [] (cut.0 ++ cut.1) (part.Load v ∷ also_parts a.0) = reads_append [] cut.0 cut.1 (part.Load v ∷ []) (also_parts a.0) first a.1 in
-        record {
-          first = part.Load v;
-          later = also_parts a.0;
-          reads = subst (λ (z : List SectionTokens). Reads [] z (part.Load v ∷ also_parts a.0)) (sym cut.2) whole;
-          clean = load_clean l v a.0 is r.2.2 a.2;
-          says = load_says at l v a.0 is r.2.2 a.2;
-        })
+    let cut = are_append ((symbol.Name n ∷ symbols_of (rest_bits l)) ∷ []) ss ts are in
+    let P : Part → Type 0 = λ p. (v : LoadPart) × (p ≡ part.Load v) × SaysLoad l v in
+    let r = one_section P [] n (symbols_of (rest_bits l)) cut.0 cut.3 (due_first n refl)
+    (λ token last rest g.
+    let v = load_part_read last l rest is.immediate g in
+    (part.Load v.0, load_part_by l.kind token last rest ∙ v.1, (v.0, refl, v.2))) in
+    let v : LoadPart = r.2.0 in
+    let first : Reads [] cut.0 (part.Load v ∷ []) = subst (λ (p : Part). Reads [] cut.0 (p ∷ [])) r.2.1 r.1 in
+    let a = also_sections_read l.mul v cut.1 cut.4 in
+    let whole : Reads [] (cut.0 ++ cut.1) (part.Load v ∷ also_parts a.0) = reads_append [] cut.0 cut.1 (part.Load v ∷ []) (also_parts a.0) first a.1 in
+    record {
+      first = part.Load v;
+      later = also_parts a.0;
+      reads = subst (λ (z : List SectionTokens). Reads [] z (part.Load v ∷ also_parts a.0)) (sym cut.2) whole;
+      clean = load_clean l v a.0 is r.2.2 a.2;
+      says = load_says at l v a.0 is r.2.2 a.2;
+    })

@@ -245,9 +245,9 @@ vpm_by n e = let is : n ≡ 48 = grind (arith, nat_tests, e) in rw is refl
 
 both_named : (n : ℕ) (a b c : Bool) → (n == 39) ≡ a → (nat_le 32 n && nat_le n 35) ≡ b → (n == 48) ≡ c
     → NamedAs (if a then Dash ∷ []
-        else if b then Word (name.Register (register.Accumulator (n - 32))) ∷ []
-        else if c then Word (name.Register register.Vpm) ∷ []
-        else Word (name.Register (register.Target (Both n))) ∷ []) (Both n)
+    else if b then Word (name.Register (register.Accumulator (n - 32))) ∷ []
+    else if c then Word (name.Register register.Vpm) ∷ []
+    else Word (name.Register (register.Target (Both n))) ∷ []) (Both n)
 both_named n true b c e f g = nowhere_by n e
 both_named n false true c e f g = somewhere_named _ _ (accumulator_by n f)
 both_named n false false true e f g = somewhere_named _ _ (vpm_by n g)

@@ -98,7 +98,7 @@ cut_behind end h s ss xs (y ∷ ys) front done p spelled whole own next =
       are = (own, r.are);
       cut = ap (λ (zs : List Placed). (put_section end (fold cut_on start zs)).sections) whole
           ∙ (ap (λ (z : Cutting). (put_section end z).sections) (cut_front h front (y ∷ ys) done [] p own)
-              ∙ (ap (λ (z : Cutting). (put_section end (fold cut_on z ys)).sections) step ∙ (r.cut ∙ append_assoc done (first ∷ []) r.sections)));
+          ∙ (ap (λ (z : Cutting). (put_section end (fold cut_on z ys)).sections) step ∙ (r.cut ∙ append_assoc done (first ∷ []) r.sections)));
     }
 
 cut_last : (end : Token) (h : List Symbol) (xs front : List Placed) (done : List SectionTokens) → Plain h → xs ≡ front ++ [] → Spelled h front []

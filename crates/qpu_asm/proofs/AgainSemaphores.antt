@@ -78,14 +78,14 @@ semaphore_read at end s xs near h =
     let n : Name = if s.down then name.Decrement else name.Increment in
     line_read at end n (symbol.Number s.number ∷ []) [] xs (instruction.Semaphore s) (refl, tt) tt (step_mnemonic s.down) tt h
     (λ ts are.
-        let r = one_section (IsStep s.down s.number) [] n (symbol.Number s.number ∷ []) ts are (due_first n (step_begins s.down))
-            (λ token last rest g.
-                let v = last_number last s.number rest g (omega (arith, near)) in
-                (step_part s.down (bare (core.Number s.number) v.0), step_by s.down token last rest (bare (core.Number s.number) v.0) v.1, (v.0, refl))) in
-        record {
-          first = r.0;
-          later = [];
-          reads = r.1;
-          clean = rw r.2.1 (step_fault s.down s.number r.2.0 near);
-          says = rw r.2.1 (step_says at s.down s.number r.2.0);
-        })
+    let r = one_section (IsStep s.down s.number) [] n (symbol.Number s.number ∷ []) ts are (due_first n (step_begins s.down))
+    (λ token last rest g.
+    let v = last_number last s.number rest g (omega (arith, near)) in
+    (step_part s.down (bare (core.Number s.number) v.0), step_by s.down token last rest (bare (core.Number s.number) v.0) v.1, (v.0, refl))) in
+    record {
+      first = r.0;
+      later = [];
+      reads = r.1;
+      clean = rw r.2.1 (step_fault s.down s.number r.2.0 near);
+      says = rw r.2.1 (step_says at s.down s.number r.2.0);
+    })

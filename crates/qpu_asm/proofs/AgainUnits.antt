@@ -126,8 +126,8 @@ pub part_bits_are : (op : Name) (one sets : Bool) (p : UnitDoes) → part_bits o
 part_bits_are op one sets p =
     rw (condition_is p.cond, pack_is p.pack)
     (ap (λ z. Word op ∷ z)
-        (six (maybe_suffix (condition_suffix p.cond)) (flags_bits sets) (Space ∷ target_bits p.to) (maybe_suffix (pack_suffix p.pack)) (and_then (operand_bits p.a))
-            (if one then [] else and_then (operand_bits p.b))))
+    (six (maybe_suffix (condition_suffix p.cond)) (flags_bits sets) (Space ∷ target_bits p.to) (maybe_suffix (pack_suffix p.pack)) (and_then (operand_bits p.a))
+    (if one then [] else and_then (operand_bits p.b))))
 
 pub unit_read : (op : Name) (one sets : Bool) (token end : Token) (p : UnitDoes) (xs : List Placed) → takes_one op ≡ one → (one ≡ true → p.b ≡ p.a) → IsNamedPart p
     → Spelled (symbols_of (unit_bits one sets p)) xs []
@@ -138,7 +138,8 @@ unit_read op one sets token end p xs takes twice named h =
     let s = suffixes_read (condition_suffix p.cond) sets (Space ∷ (target_bits p.to ++ behind)) xs [] h (λ mid g. target_no_dot p.to behind mid [] g) in
     let t = target_read end p.to (pack_suffix p.pack) (Comma ∷ Space ∷ both) s.0 [] s.1 (λ mid g. comma_ends (Space ∷ both) mid [] g) in
     let c = comma_read end (Space ∷ both) t.0 [] t.1 in
-    let o = operands_read op one end p.a p.b c.0 takes twice named.a named.b c.1 in
-    (record { op = op; token = token; suffixes = s.2; to = t.2; a = o.0; b = o.1 },
-    unit_step op token end xs s.0 t.0 c.0 s.2 t.2 o.0 o.1 s.3 t.3 c.2 o.2,
-    record { op = refl; suffixes = s.4; to = t.4; pack = t.5; a = o.3; b = o.4 })
+    let o = operands_read op one end p.a p.b c.0 takes twice named.a named.b c.1 in (
+      record { op = op; token = token; suffixes = s.2; to = t.2; a = o.0; b = o.1 },
+      unit_step op token end xs s.0 t.0 c.0 s.2 t.2 o.0 o.1 s.3 t.3 c.2 o.2,
+      record { op = refl; suffixes = s.4; to = t.4; pack = t.5; a = o.3; b = o.4 },
+    )

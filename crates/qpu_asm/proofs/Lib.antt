@@ -34,3 +34,4 @@ pub mod SharedFields
 pub mod UnitsLaw
 pub mod LineLaw
 pub mod RawLaw
+pub mod HexLemmas

@@ -15,3 +15,4 @@ pub mod Answers
 pub mod LinesRead
 pub mod Assembly
 pub mod Laws
+pub mod HexLines

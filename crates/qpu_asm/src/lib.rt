@@ -8,9 +8,10 @@
 //! exactly its first fault, with its place.
 #![tactic(auto)]
 
-pub mod again;
+mod again;
 mod assembly;
 mod expression;
+mod hex;
 mod judge;
 mod laws;
 mod line;
@@ -24,8 +25,9 @@ mod placed;
 mod roles;
 mod section;
 mod stop;
+mod words;
 
+pub use again::canonical_lines_are_read;
 pub use assembly::assemble;
-
-#[cfg(test)]
-mod tests;
+pub use laws::{lines_have_words, placed_tokens_are_proper, raw_lines_are_words};
+pub use words::words_of;

@@ -1,4 +1,4 @@
-use crate::assemble;
+use qpu_asm::assemble;
 use qpu_token::{AsmKind, MOST_BYTES};
 use std::alloc::Global;
 use std::test::Fail;
