@@ -148,7 +148,8 @@ fn encode_lines(
     lines: &[PlainLine],
 ) -> Result<Words, Stop>
     requires { length lines.now ≤ MOST_WORDS }
-    ensures { Answers (words_of_lines text.now labels.now [] lines.now) result }
+    ensures due { Answers (words_of_lines text.now labels.now [] lines.now) result }
+    ensures few { IfOk result (λ words. length words ≤ MOST_WORDS) }
 {
     let mut words = Words {
         words: Vec::new(alloc),
@@ -163,7 +164,8 @@ fn encode_lines(
 #[tactic(auto, unfolding(crate::specs::Assembly::encoding))]
 fn encode(alloc: Global, text: &[u8], expanded: &Expanded) -> Result<Words, Stop>
     requires { length expanded.now.lines.items ≤ MOST_WORDS }
-    ensures { Answers (encoding text.now (record { lines = expanded.now.lines.items; labels = expanded.now.labels.items })) result }
+    ensures due { Answers (encoding text.now (record { lines = expanded.now.lines.items; labels = expanded.now.labels.items })) result }
+    ensures few { IfOk result (λ words. length words ≤ MOST_WORDS) }
 {
     let labels = labels_of(alloc, text, &expanded.labels)?;
     encode_lines(alloc, text, &labels, &expanded.lines)
@@ -174,6 +176,7 @@ fn encode(alloc: Global, text: &[u8], expanded: &Expanded) -> Result<Words, Stop
 fn assemble_tokens(alloc: Global, text: &str, tokens: &[Token]) -> Result<Vec<Word>, AsmFault>
     requires { AreTokens text.now tokens.now }
     ensures ok { IfOk result (λ words. AreWords text.now words.items) }
+    ensures few { IfOk result (λ words. length words.items ≤ MOST_WORDS) }
     ensures err { IfErr result (λ fault. IsItsFault text.now fault) }
 {
     match expand(alloc, text, tokens) {
@@ -192,6 +195,7 @@ fn assemble_tokens(alloc: Global, text: &str, tokens: &[Token]) -> Result<Vec<Wo
 pub fn assemble(alloc: Global, text: &str) -> Result<Vec<Word>, AsmFault>
     requires { length text.now ≤ MOST_BYTES }
     ensures ok { IfOk result (λ words. AreWords text.now words.items) }
+    ensures few { IfOk result (λ words. length words.items ≤ MOST_WORDS) }
     ensures err { IfErr result (λ fault. IsItsFault text.now fault) }
 {
     match tokens(alloc, text) {
