@@ -1,9 +1,9 @@
 -- The sections of a line of both units are read as its parts.
-use Rattle.std.proofs.Common.{◌≡◌, ℕ, ◌+◌, ◌-◌, ◌<◌, ◌≤◌, Bool, true, false, List, [], ◌∷◌, ◌++◌, append_assoc, refl, sym, ap, ◌∙◌, subst, arith}
-use Rattle.std.proofs.lemmas.List.{append-nil}
+use Rattle.std.proofs.Common.{◌≡◌, ℕ, ◌-◌, ◌<◌, ◌≤◌, Bool, true, false, List, [], ◌∷◌, ◌++◌, append_assoc, refl, sym, ap, ◌∙◌, subst, arith}
 use Rattle.std.proofs.lemmas.Bool.Decides.{nat_tests}
-use Rattle.std.specs.Prelude.{◌==◌, ◌&&◌, ◌||◌, ◌%◌, not, nat_lt, nat_le, fold, Option, Some, None, IfSome, IsSomeAnd, is_some, unwrap_or, Result, Ok, Err, if◌then◌else◌}
+use Rattle.std.specs.Prelude.{◌==◌, ◌&&◌, ◌||◌, not, nat_le, Option, Some, None, IfSome, IsSomeAnd, is_some, Ok, if◌then◌else◌}
 use Rattle.qpu_token.specs.declared.token.Token.{Token}
+use Rattle.qpu_word.specs.declared.operation.AddOp.{AddOp}
 use Rattle.qpu_word.specs.Words.{between, is_unary}
 use Rattle.qpu_word.specs.Operations.{add_op, mul_op}
 use Rattle.qpu_line.specs.declared.part.Part.{Part as UnitDoes}
@@ -24,19 +24,18 @@ use Rattle.qpu_asm.specs.declared.part.UnitPart.{UnitPart}
 use Rattle.qpu_asm.specs.declared.part.Part.{Part}
 use Rattle.qpu_asm.specs.declared.part.Part.TheVariants as part
 use Rattle.qpu_asm.specs.declared.mark.Mark.{Mark}
-use Rattle.qpu_asm.specs.Reading.{go_on, ended}
 use Rattle.qpu_asm.specs.Pieces.{bare}
 use Rattle.qpu_asm.specs.Parts.{last_value, last_name, unit_part, part_by}
-use Rattle.qpu_asm.specs.Orders.{begins, extra, unit_follows, follows, is_empty, second}
+use Rattle.qpu_asm.specs.Orders.{extra, follows, is_empty, second}
 use Rattle.qpu_asm.specs.Roles.{op_in_add, op_in_mul, is_mnemonic}
 use Rattle.qpu_asm.specs.SectionTokens.{SectionTokens}
 use Rattle.qpu_asm.specs.Marks.{rotation_marks}
 use Rattle.qpu_asm.specs.Meanings.{rotation_of}
-use Rattle.qpu_asm.proofs.AgainSpelled.{Spelled, symbols_append}
+use Rattle.qpu_asm.proofs.AgainSpelled.{Spelled, symbols_append, never}
 use Rattle.qpu_asm.proofs.AgainUnits.{SaysUnit, unit_bits, part_bits_are, unit_read}
 use Rattle.qpu_asm.proofs.AgainSections.{Plain, AllPlain, AllBegin, tails, tails_append, AreSections, Reads}
 use Rattle.qpu_asm.proofs.AgainPlain.{unit_plain}
-use Rattle.qpu_asm.proofs.AgainOps.{IsAddOp, add_known, IsMulOp, mul_known}
+use Rattle.qpu_asm.proofs.AgainOps.{add_known, mul_known}
 use Rattle.qpu_asm.proofs.AgainForms.{due_first, due_behind, one_section, no_section, behind_symbols, last_number, last_word, last_source}
 
 -- a unit's part by what the unit does
@@ -70,7 +69,7 @@ nop_step : (token end : Token) (xs : List Placed) → xs ≡ [] → part_by name
 unfolding part_by
 nop_step token end xs e = rw e refl
 
-add_by : (op : Rattle.qpu_word.specs.declared.operation.AddOp.AddOp) (token end : Token) (xs : List Placed) → part_by (name.Add op) token end xs ≡ unit_part (name.Add op) token end xs
+add_by : (op : AddOp) (token end : Token) (xs : List Placed) → part_by (name.Add op) token end xs ≡ unit_part (name.Add op) token end xs
 unfolding part_by
 add_by op token end xs = refl
 
@@ -91,9 +90,9 @@ head_read sets (Some p) ts is are =
     let spelled : AreSections ((symbol.Name n ∷ ss) ∷ []) ts = subst (λ (z : Name). AreSections ((symbol.Name z ∷ ss) ∷ []) ts) (ap add_name k.found) are in
     let P : Part → Type 0 = λ q. (v : UnitPart) × (q ≡ part.Unit v) × SaysUnit n sets p v in
     let r = one_section P [] n ss ts spelled (due_first n refl)
-        (λ token end rest g.
-            let v = unit_read n (is_unary p.op) sets token end p rest k.one is.twice is.part g in
-            (part.Unit v.0, add_by k.op token end rest ∙ v.1, (v.0, refl, v.2))) in
+    (λ token end rest g.
+    let v = unit_read n (is_unary p.op) sets token end p rest k.one is.twice is.part g in
+    (part.Unit v.0, add_by k.op token end rest ∙ v.1, (v.0, refl, v.2))) in
     let v : UnitPart = r.2.0 in
     (Some v, subst (λ (q : Part). Reads [] ts (q ∷ [])) r.2.1 r.1, (n, v, refl, ap (λ (z : ℕ). Some z) k.code, r.2.2))
 
@@ -121,9 +120,6 @@ pub mul_tails : (sets : Bool) (o : Option UnitDoes) → symbols_of (mul_bits set
 mul_tails sets None = refl
 mul_tails sets (Some p) = ap (λ z. symbols_of (behind z)) (part_bits_are (mul_name (mul_op p.op)) false sets p) ∙ behind_symbols (Word (mul_name (mul_op p.op)) ∷ unit_bits false sets p)
 
-never : false ≡ true → ⊥
-never e = cc
-
 pub mul_read : (sets : Bool) (o : Option UnitDoes) (f : Option UnitPart) (ts : List SectionTokens) → IfSome o IsMulPart → AreSections (mul_sections sets o) ts
     → (m : Option UnitPart) × Reads (head_part f ∷ []) ts (unit_parts m) × SaysActive op_in_mul sets o m
 mul_read sets None f ts is are = (None, no_section (head_part f ∷ []) ts are, refl)
@@ -134,9 +130,9 @@ mul_read sets (Some p) f ts is are =
     let spelled : AreSections ((symbol.Name n ∷ ss) ∷ []) ts = subst (λ (z : Name). AreSections ((symbol.Name z ∷ ss) ∷ []) ts) k.named are in
     let P : Part → Type 0 = λ q. (v : UnitPart) × (q ≡ part.Unit v) × SaysUnit n sets p v in
     let r = one_section P (head_part f ∷ []) n ss ts spelled (due_behind (head_part f) [] n (head_mul f n p.op k.code))
-        (λ token end rest g.
-            let v = unit_read n false sets token end p rest k.one (λ e. absurd (never e)) is.part g in
-            (part.Unit v.0, k.part token end rest ∙ v.1, (v.0, refl, v.2))) in
+    (λ token end rest g.
+    let v = unit_read n false sets token end p rest k.one (λ e. absurd (never e)) is.part g in
+    (part.Unit v.0, k.part token end rest ∙ v.1, (v.0, refl, v.2))) in
     let v : UnitPart = r.2.0 in
     (Some v, subst (λ (q : Part). Reads (head_part f ∷ []) ts (q ∷ [])) r.2.1 r.1, (n, v, refl, k.code, r.2.2))
 
@@ -247,7 +243,7 @@ plain_read : (s : Signal) (n : Name) (f m : Option UnitPart) (ts : List SectionT
 plain_read s n f m ts are d step =
     let P : Part → Type 0 = λ q. (t : Token) × (q ≡ part.Signal s t) in
     let r = one_section P (head_part f ∷ unit_parts m) n [] ts are (due_behind (head_part f) (unit_parts m) n (head_extra f (unit_parts m) n d))
-        (λ token end rest g. (part.Signal s token, step token end rest g, (token, refl))) in
+    (λ token end rest g. (part.Signal s token, step token end rest g, (token, refl))) in
     (r.2.0, subst (λ (q : Part). Reads (head_part f ∷ unit_parts m) ts (q ∷ [])) r.2.1 r.1)
 
 pub signal_read : (s : Signal) (sets : Bool) (o : Option UnitDoes) (f m : Option UnitPart) (ts : List SectionTokens) → IsNamedSignal s o → SaysActive op_in_mul sets o m
@@ -262,10 +258,10 @@ signal_read Load1 sets o f m ts named says are =
 signal_read (Rotate code) sets o f m ts named says are =
     let P : Part → Type 0 = λ q. (t : Token) × (p : Piece) × (q ≡ part.Rotate t p) × SaysRotation code p in
     let r = one_section P (head_part f ∷ unit_parts m) name.Rotate (turn_symbols code) ts are
-        (due_behind (head_part f) (unit_parts m) name.Rotate (head_extra f (unit_parts m) name.Rotate (turn_extra sets o m named.1 says)))
-        (λ token end rest g.
-            let t = turn_read end code (code == 48) rest refl named.0 g in
-            (part.Rotate token t.0, rotate_step token end rest t.0 t.1, (token, t.0, refl, t.2))) in
+    (due_behind (head_part f) (unit_parts m) name.Rotate (head_extra f (unit_parts m) name.Rotate (turn_extra sets o m named.1 says)))
+    (λ token end rest g.
+    let t = turn_read end code (code == 48) rest refl named.0 g in
+    (part.Rotate token t.0, rotate_step token end rest t.0 t.1, (token, t.0, refl, t.2))) in
     (turned r.2.0 r.2.1, subst (λ (q : Part). Reads (head_part f ∷ unit_parts m) ts (q ∷ [])) r.2.2 r.1, (r.2.0, r.2.1, refl, r.2.3))
 
 -- other reads
@@ -327,9 +323,9 @@ a_read (Some n) f m g ts are =
     let earlier : List Part = unit_parts m ++ told_parts g in
     let P : Part → Type 0 = λ q. (t : Token) × (q ≡ part.ReadA (bare (core.Name (source_a n)) t)) in
     let r = one_section P (head_part f ∷ earlier) name.ReadA (symbol.Name (source_a n) ∷ []) ts are (due_behind (head_part f) earlier name.ReadA (head_extra f earlier name.ReadA (a_extra m g)))
-        (λ token end rest h.
-            let t = last_source end (source_a n) rest h in
-            (part.ReadA (bare (core.Name (source_a n)) t.0), a_step token end rest (bare (core.Name (source_a n)) t.0) t.1, (t.0, refl))) in
+    (λ token end rest h.
+    let t = last_source end (source_a n) rest h in
+    (part.ReadA (bare (core.Name (source_a n)) t.0), a_step token end rest (bare (core.Name (source_a n)) t.0) t.1, (t.0, refl))) in
     (Some (bare (core.Name (source_a n)) r.2.0), subst (λ (q : Part). Reads (head_part f ∷ earlier) ts (q ∷ [])) r.2.1 r.1, (r.2.0, refl))
 
 pub b_read : (o : Option ℕ) (f m : Option UnitPart) (g : Told) (a : Option Piece) (ts : List SectionTokens) → AreSections (other_sections name.ReadB source_b o) ts
@@ -339,9 +335,9 @@ b_read (Some n) f m g a ts are =
     let earlier : List Part = unit_parts m ++ told_parts g ++ a_parts a in
     let P : Part → Type 0 = λ q. (t : Token) × (q ≡ part.ReadB (bare (core.Name (source_b n)) t)) in
     let r = one_section P (head_part f ∷ earlier) name.ReadB (symbol.Name (source_b n) ∷ []) ts are (due_behind (head_part f) earlier name.ReadB (head_extra f earlier name.ReadB (b_extra m g a)))
-        (λ token end rest h.
-            let t = last_source end (source_b n) rest h in
-            (part.ReadB (bare (core.Name (source_b n)) t.0), b_step token end rest (bare (core.Name (source_b n)) t.0) t.1, (t.0, refl))) in
+    (λ token end rest h.
+    let t = last_source end (source_b n) rest h in
+    (part.ReadB (bare (core.Name (source_b n)) t.0), b_step token end rest (bare (core.Name (source_b n)) t.0) t.1, (t.0, refl))) in
     (Some (bare (core.Name (source_b n)) r.2.0), subst (λ (q : Part). Reads (head_part f ∷ earlier) ts (q ∷ [])) r.2.1 r.1, (r.2.0, refl))
 
 -- the whole line
@@ -355,8 +351,8 @@ five : (a b c d e : List Bit) → symbols_of (a ++ b ++ c ++ d ++ e) ≡ symbols
 five a b c d e =
     symbols_append (a ++ b ++ c ++ d) e
     ∙ (ap (λ z. z ++ symbols_of e) (symbols_append (a ++ b ++ c) d)
-        ∙ (ap (λ z. z ++ symbols_of d ++ symbols_of e) (symbols_append (a ++ b) c)
-            ∙ (ap (λ z. z ++ symbols_of c ++ symbols_of d ++ symbols_of e) (symbols_append a b) ∙ right (symbols_of a) (symbols_of b) (symbols_of c) (symbols_of d) (symbols_of e))))
+    ∙ (ap (λ z. z ++ symbols_of d ++ symbols_of e) (symbols_append (a ++ b) c)
+    ∙ (ap (λ z. z ++ symbols_of c ++ symbols_of d ++ symbols_of e) (symbols_append a b) ∙ right (symbols_of a) (symbols_of b) (symbols_of c) (symbols_of d) (symbols_of e))))
   where
     right : (a b c d e : List Symbol) → a ++ b ++ c ++ d ++ e ≡ a ++ (b ++ (c ++ (d ++ e)))
     right a b c d e = simp append_assoc
@@ -375,8 +371,8 @@ units_symbols u =
     let muls : Bool = u.sets && not (is_some u.add) in
     five (add_bits u.sets u.add) (mul_bits muls u.mul) (signal_bits u.signal) (other_bits name.ReadA source_a u.other_a) (other_bits name.ReadB source_b u.other_b)
     ∙ (parts_same _ _ _ _ _ _ _ _ _ _ (head_symbols u.sets u.add) (mul_tails muls u.mul) (signal_tails u.signal) (other_tails name.ReadA source_a u.other_a) (other_tails name.ReadB source_b u.other_b)
-        ∙ ap (λ z. (symbol.Name (head_name u.add) ∷ head_rest u.sets u.add) ++ z)
-        (sym (four (mul_sections muls u.mul) (signal_sections u.signal) (other_sections name.ReadA source_a u.other_a) (other_sections name.ReadB source_b u.other_b))))
+    ∙ ap (λ z. (symbol.Name (head_name u.add) ∷ head_rest u.sets u.add) ++ z)
+    (sym (four (mul_sections muls u.mul) (signal_sections u.signal) (other_sections name.ReadA source_a u.other_a) (other_sections name.ReadB source_b u.other_b))))
 
 -- no sign `;` in a section, and a mnemonic at its front
 

@@ -1,9 +1,8 @@
 -- The line of a branch is read.
-use Rattle.std.proofs.Common.{◌≡◌, ℕ, ◌+◌, ◌-◌, ◌<◌, ◌≤◌, Bool, true, false, List, [], ◌∷◌, ◌++◌, append_assoc, refl, sym, ap, ◌∙◌, subst, arith}
-use Rattle.std.proofs.lemmas.List.{append-nil}
+use Rattle.std.proofs.Common.{◌≡◌, ℕ, ◌<◌, ◌≤◌, Bool, true, false, List, [], ◌∷◌, ◌++◌, append_assoc, refl, sym, ap, ◌∙◌, subst, arith}
 use Rattle.std.proofs.lemmas.List.Sums.{fold-append}
 use Rattle.std.proofs.lemmas.Bool.Decides.{nat_tests}
-use Rattle.std.specs.Prelude.{◌==◌, ◌&&◌, ◌||◌, not, nat_lt, fold, Option, Some, None, IfSome, unwrap_or, Result, Ok, Err, if◌then◌else◌}
+use Rattle.std.specs.Prelude.{nat_lt, fold, Option, Some, None, Ok, if◌then◌else◌}
 use Rattle.std.specs.Option.{option_or}
 use Rattle.qpu_token.specs.declared.token.Token.{Token}
 use Rattle.qpu_word.specs.declared.name.Place.{Place}
@@ -18,7 +17,7 @@ use Rattle.qpu_line.specs.declared.name.Register.TheVariants as register
 use Rattle.qpu_line.specs.declared.symbol.Symbol.{Symbol}
 use Rattle.qpu_line.specs.declared.symbol.Symbol.TheVariants as symbol
 use Rattle.qpu_line.specs.Lines.{Bit, Word, Number, Figure, Hexadecimal, Comma, Space, worth, signed_figure, symbols_of, behind, and_then, suffix, target_bits, branch_condition_bits, is_nowhere, link_bits, row_bits, branch_bits}
-use Rattle.qpu_line.specs.Worded.{IsBranch, IsTarget, is_exchanged_branch}
+use Rattle.qpu_line.specs.Worded.{IsBranch, is_exchanged_branch}
 use Rattle.qpu_asm.specs.declared.placed.Placed.{Placed}
 use Rattle.qpu_asm.specs.declared.piece.Core.{Core}
 use Rattle.qpu_asm.specs.declared.piece.Core.TheVariants as core
@@ -30,21 +29,20 @@ use Rattle.qpu_asm.specs.declared.part.Part.TheVariants as part
 use Rattle.qpu_asm.specs.declared.line.Line.TheVariants.{Says}
 use Rattle.qpu_asm.specs.declared.mark.What.TheVariants as what
 use Rattle.qpu_asm.specs.declared.mark.Mark.{Mark}
-use Rattle.qpu_asm.specs.Reading.{go_on, ended}
 use Rattle.qpu_asm.specs.Pieces.{bare, suffix_at, comma_at, target_core, jump_core}
 use Rattle.qpu_asm.specs.Parts.{branch_part, last_name, part_by}
-use Rattle.qpu_asm.specs.Orders.{begins, branch_follows, follows, is_name}
+use Rattle.qpu_asm.specs.Orders.{begins, follows}
 use Rattle.qpu_asm.specs.Roles.{is_mnemonic}
 use Rattle.qpu_asm.specs.SectionTokens.{SectionTokens}
-use Rattle.qpu_asm.specs.Marks.{mark, mark_if, target_place, somewhere, if_link, place_mark, branch_marks, jump_marks, jumping_marks, is_row_name, part_marks, marks_of}
+use Rattle.qpu_asm.specs.Marks.{mark, target_place, somewhere, if_link, place_mark, branch_marks, jump_marks, jumping_marks, part_marks, marks_of}
 use Rattle.qpu_asm.specs.Judging.{cross, line_fault}
-use Rattle.qpu_asm.specs.Meanings.{place_of, nowhere, branch_condition_in, distance, row_of, row_part, first_told, link_in, branch_of_part, meaning}
+use Rattle.qpu_asm.specs.Meanings.{place_of, branch_condition_in, distance, row_of, row_part, first_told, link_in, branch_of_part, meaning}
 use Rattle.qpu_asm.specs.LinesRead.{read_line}
 use Rattle.qpu_asm.proofs.AgainSpelled.{Spelled, symbols_append}
-use Rattle.qpu_asm.proofs.AgainPieces.{Stops, NoDot, ends_stops, maybe_suffix, Suffixed, suffix_read, SaysCore, target_core_read, target_no_dot, jump_number}
+use Rattle.qpu_asm.proofs.AgainPieces.{place_by, ends_stops, maybe_suffix, Suffixed, suffix_read, SaysCore, target_core_read, target_no_dot, jump_number}
 use Rattle.qpu_asm.proofs.AgainUnits.{comma_ends, comma_read, nothing_ends}
-use Rattle.qpu_asm.proofs.AgainSections.{Plain, bits_plain, AllPlain, AllBegin, tails, tails_append, AreSections, Reads, IsLine, line_read}
-use Rattle.qpu_asm.proofs.AgainMarks.{Given, NoTarget, Only, AnyTarget, Clean, clean_start, clean_first, clean_second, no_fault}
+use Rattle.qpu_asm.proofs.AgainSections.{Plain, bits_plain, AllPlain, AllBegin, tails, tails_append, AreSections, Reads, line_read}
+use Rattle.qpu_asm.proofs.AgainMarks.{Given, nothing_given, marks_are, NoTarget, Only, AnyTarget, Clean, clean_start, clean_first, clean_second, no_fault}
 use Rattle.qpu_asm.proofs.AgainHeld.{no_cross}
 use Rattle.qpu_asm.proofs.AgainPlain.{suffix_plain, target_plain}
 use Rattle.qpu_asm.proofs.AgainForms.{due_first, due_behind, are_append, reads_append, plain_both, begin_both, one_section, no_section, behind_symbols, last_target, last_source}
@@ -103,10 +101,11 @@ branch_part_read end b xs near h =
     let s = suffix_read (branch_suffix b.cond) (Space ∷ (target_bits b.add ++ (Comma ∷ jump))) xs [] h (λ mid g. target_no_dot b.add (Comma ∷ jump) mid [] g) in
     let t = target_core_read end b.add (Comma ∷ jump) s.0 [] s.1 (λ mid g. ends_stops mid (comma_ends jump mid [] g)) in
     let c = comma_read end jump t.0 [] t.1 in
-    let v = jump_read end b.immediate (worth (if b.relative then signed_figure b.immediate else Hexadecimal b.immediate)) c.0 (figure_worth b.relative b.immediate near) near c.1 in
-    (record { relative = b.relative; suffix = s.2; to = bare t.2 t.3; target = bare (core.Number b.immediate) v.0 },
-    branch_step b.relative end xs s.0 t.0 c.0 s.2 (bare t.2 t.3) (bare (core.Number b.immediate) v.0) s.3 t.4 c.2 v.1,
-    record { relative = refl; condition = s.4; to = t.5; target = refl })
+    let v = jump_read end b.immediate (worth (if b.relative then signed_figure b.immediate else Hexadecimal b.immediate)) c.0 (figure_worth b.relative b.immediate near) near c.1 in (
+      record { relative = b.relative; suffix = s.2; to = bare t.2 t.3; target = bare (core.Number b.immediate) v.0 },
+      branch_step b.relative end xs s.0 t.0 c.0 s.2 (bare t.2 t.3) (bare (core.Number b.immediate) v.0) s.3 t.4 c.2 v.1,
+      record { relative = refl; condition = s.4; to = t.5; target = refl },
+    )
 
 branch_by : (relative : Bool) (token end : Token) (xs : List Placed)
     → part_by (if relative then name.RelativeBranch else name.Branch) token end xs ≡ branch_part relative end xs
@@ -155,7 +154,7 @@ link_read true to v ts are = (None, no_section (part.Branch v ∷ []) ts are, re
 link_read false to v ts are =
     let P : Part → Type 0 = λ q. (p : Piece) × (q ≡ part.Link p) × SaysCore to p.core in
     let r = one_section P (part.Branch v ∷ []) name.Link (symbols_of (target_bits to)) ts are (due_behind (part.Branch v) [] name.Link refl)
-        (λ token end rest g. let t = last_target end to rest g in (part.Link t.0, link_step token end rest t.0 t.1, (t.0, refl, t.2))) in
+    (λ token end rest g. let t = last_target end to rest g in (part.Link t.0, link_step token end rest t.0 t.1, (t.0, refl, t.2))) in
     let reads : Reads (part.Branch v ∷ []) ts (part.Link r.2.0 ∷ []) = subst (λ (p : Part). Reads (part.Branch v ∷ []) ts (p ∷ [])) r.2.1 r.1 in
     (Some r.2.0, reads, (r.2.0, refl, r.2.2))
 
@@ -196,7 +195,7 @@ row_read v n l None ts e are = (None, no_section (part.Branch v ∷ link_parts l
 row_read v n l (Some row) ts e are =
     let P : Part → Type 0 = λ q. (t : Token) × (q ≡ part.Row (bare (core.Name (row_name row)) t)) in
     let r = one_section P (part.Branch v ∷ link_parts l) name.Row (symbol.Name (row_name row) ∷ []) ts are (due_behind (part.Branch v) (link_parts l) name.Row (row_due v n l e))
-        (λ token end rest g. let t = last_source end (row_name row) rest g in (part.Row (bare (core.Name (row_name row)) t.0), row_step token end rest (bare (core.Name (row_name row)) t.0) t.1, (t.0, refl))) in
+    (λ token end rest g. let t = last_source end (row_name row) rest g in (part.Row (bare (core.Name (row_name row)) t.0), row_step token end rest (bare (core.Name (row_name row)) t.0) t.1, (t.0, refl))) in
     let reads : Reads (part.Branch v ∷ link_parts l) ts (part.Row (bare (core.Name (row_name row)) r.2.0) ∷ []) = subst (λ (p : Part). Reads (part.Branch v ∷ link_parts l) ts (p ∷ [])) r.2.1 r.1 in
     (Some r.2.0, reads, (r.2.0, refl))
 
@@ -206,9 +205,6 @@ condition_by : (cond : ℕ) (low : Bool) (s : Option Suffix) → nat_lt cond 12 
     → Suffixed (if low then Some (name.BranchCondition cond) else None) s → branch_condition_in s ≡ cond
 condition_by cond true s e near known h = rw h.1 refl
 condition_by cond false s e near known h = let is : 15 ≡ cond = grind (arith, nat_tests, e, known) in rw h is
-
-place_by : (o : Option Place) (to other : Place) → o ≡ Some to → unwrap_or o other ≡ to
-place_by o to other e = rw e refl
 
 nowhere_is : (to : Place) → is_nowhere to ≡ true → to ≡ Both 39
 nowhere_is (Both n) e = let is : n ≡ 39 = grind (arith, nat_tests, e) in ap (λ (z : ℕ). Both z) is
@@ -248,15 +244,12 @@ branch_says at b v l t is says link row =
     let later : List Part = link_parts l ++ row_parts b.register t in
     ap (λ z. instruction.Branch z)
     (same_branch b (branch_condition_in v.suffix) v.relative (option_or (row_of v.target.core) (first_told row_part later)) (place_of v.to.core) (link_in later) (distance v.relative at v.target.core)
-        (condition_by b.cond (nat_lt b.cond 12) v.suffix refl is.cond is.known says.condition) says.relative
-        (register_back v.target.core b.immediate (first_told row_part later) b.register says.target (row_back l b.register t row))
-        (place_by (target_place v.to.core) b.add _ says.to.place) (link_back (is_nowhere b.mul) b.mul l b.register t refl link)
-        (distance_back v.relative at v.target.core b.immediate says.target))
+    (condition_by b.cond (nat_lt b.cond 12) v.suffix refl is.cond is.known says.condition) says.relative
+    (register_back v.target.core b.immediate (first_told row_part later) b.register says.target (row_back l b.register t row))
+    (place_by (target_place v.to.core) b.add _ says.to.place) (link_back (is_nowhere b.mul) b.mul l b.register t refl link)
+    (distance_back v.relative at v.target.core b.immediate says.target))
 
 -- no fault
-
-dummy : Given
-dummy = record { small = false; a = 0; unpack = 0; b = 0; adds = false; turns = false }
 
 jump_marked : (p : Piece) (n : ℕ) (ms : List Mark) → p.core ≡ core.Number n → jump_marks p ms ≡ ms
 jump_marked p n ms e = rw e refl
@@ -274,8 +267,11 @@ unfolding part_marks jumping_marks
 first_clean g b v linked says =
     let same : branch_marks v.suffix [] ≡ [] = condition_marked b.cond (nat_lt b.cond 12) v.suffix [] says.condition in
     let written : Clean (Only b.add) g (mark (what.Writes b.add) v.to.token []) = clean_first g b.add v.to.token [] (clean_start NoTarget g) in
-    rw (jump_marked v.target b.immediate (place_mark (if_link (target_place v.to.core)) v.to.token (branch_marks v.suffix [])) says.target, same,
-        link_marked (target_place v.to.core) b.add v.to.token [] says.to.place linked)
+    rw (
+      jump_marked v.target b.immediate (place_mark (if_link (target_place v.to.core)) v.to.token (branch_marks v.suffix [])) says.target,
+      same,
+      link_marked (target_place v.to.core) b.add v.to.token [] says.to.place linked,
+    )
     written
 
 not_nowhere : (to : Place) → is_nowhere to ≡ false → to ≡ Both 39 → ⊥
@@ -296,20 +292,16 @@ row_marked None t ms = refl
 row_marked (Some row) None ms = refl
 row_marked (Some row) (Some t) ms = refl
 
-marks_are : (f : Part) (later : List Part) → marks_of (f ∷ later) ≡ fold (part_marks true) (part_marks false [] f) later
-unfolding marks_of
-marks_are f later = refl
-
 branch_clean : (b : Branch) (v : BranchPart) (l : Option Piece) (t : Option Token) → IsBranch b → SaysBranch b v → SaysLink (is_nowhere b.mul) b.mul l
     → line_fault (marks_of (part.Branch v ∷ (link_parts l ++ row_parts b.register t))) ≡ None
 branch_clean b v l t is says link =
     let apart : cross b.add b.mul ≡ false = no_cross (is_exchanged_branch b) b.add b.mul is.add_to is.mul_to in
     let start : List Mark = part_marks false [] (part.Branch v) in
-    let c = second_clean dummy b.add b.mul (is_nowhere b.mul) l start refl is.mul link apart (first_clean dummy b v is.add says) in
+    let c = second_clean nothing_given b.add b.mul (is_nowhere b.mul) l start refl is.mul link apart (first_clean nothing_given b v is.add says) in
     let same : marks_of (part.Branch v ∷ (link_parts l ++ row_parts b.register t)) ≡ fold (part_marks true) start (link_parts l) =
     marks_are (part.Branch v) (link_parts l ++ row_parts b.register t)
     ∙ (fold-append (part_marks true) start (link_parts l) (row_parts b.register t) ∙ row_marked b.register t (fold (part_marks true) start (link_parts l))) in
-    rw same (no_fault c.0 dummy _ c.1)
+    rw same (no_fault c.0 nothing_given _ c.1)
 
 -- its line
 
@@ -330,7 +322,7 @@ unfolding branch_bits
 branch_bits_are b =
     rw (branch_suffix_is b.cond)
     (six (Word (branch_name b)) (maybe_suffix (branch_suffix b.cond)) (Space ∷ target_bits b.add)
-        (and_then (Number (if b.relative then signed_figure b.immediate else Hexadecimal b.immediate) ∷ [])) (link_bits b.mul) (row_bits b.register))
+    (and_then (Number (if b.relative then signed_figure b.immediate else Hexadecimal b.immediate) ∷ [])) (link_bits b.mul) (row_bits b.register))
 
 later_tails : (b : Branch) → symbols_of (link_bits b.mul ++ row_bits b.register) ≡ tails (later_sections b)
 later_tails b =
@@ -341,7 +333,7 @@ branch_symbols : (b : Branch) → symbols_of (branch_bits b) ≡ (symbol.Name (b
 branch_symbols b =
     ap symbols_of (branch_bits_are b)
     ∙ (symbols_append (Word (branch_name b) ∷ rest_bits b) (link_bits b.mul ++ row_bits b.register)
-        ∙ ap (λ z. (symbol.Name (branch_name b) ∷ symbols_of (rest_bits b)) ++ z) (later_tails b))
+    ∙ ap (λ z. (symbol.Name (branch_name b) ∷ symbols_of (rest_bits b)) ++ z) (later_tails b))
 
 rest_plain : (b : Branch) → Plain (symbols_of (rest_bits b))
 rest_plain b =
@@ -376,25 +368,25 @@ branch_read at end b xs is h =
     (plain_both links rows (link_plain (is_nowhere b.mul) b.mul) (row_plain b.register)) (branch_mnemonic b.relative)
     (begin_both links rows (link_begins (is_nowhere b.mul) b.mul) (row_begins b.register)) spelled
     (λ ts are.
-        let cut = are_append ((symbol.Name n ∷ symbols_of (rest_bits b)) ∷ []) (links ++ rows) ts are in
-        let P : Part → Type 0 = λ p. (v : BranchPart) × (p ≡ part.Branch v) × SaysBranch b v in
-        let r = one_section P [] n (symbols_of (rest_bits b)) cut.0 cut.3 (due_first n (branch_begins b.relative))
-            (λ token last rest g.
-                let v = branch_part_read last b rest is.immediate g in
-                (part.Branch v.0, branch_by b.relative token last rest ∙ v.1, (v.0, refl, v.2))) in
-        let v : BranchPart = r.2.0 in
-        let first : Reads [] cut.0 (part.Branch v ∷ []) = subst (λ (p : Part). Reads [] cut.0 (p ∷ [])) r.2.1 r.1 in
-        let tail = are_append links rows cut.1 cut.4 in
-        let l = link_read (is_nowhere b.mul) b.mul v tail.0 tail.3 in
-        let k = row_read v b.immediate l.0 b.register tail.1 r.2.2.target tail.4 in
-        let later : List Part = link_parts l.0 ++ row_parts b.register k.0 in
-        let behind : Reads (part.Branch v ∷ []) (tail.0 ++ tail.1) later = reads_append (part.Branch v ∷ []) tail.0 tail.1 (link_parts l.0) (row_parts b.register k.0) l.1 k.1 in
-        let moved : Reads (part.Branch v ∷ []) cut.1 later = subst (λ (z : List SectionTokens). Reads (part.Branch v ∷ []) z later) (sym tail.2) behind in
-        let whole : Reads [] (cut.0 ++ cut.1) (part.Branch v ∷ later) = reads_append [] cut.0 cut.1 (part.Branch v ∷ []) later first moved in
-        record {
-          first = part.Branch v;
-          later = later;
-          reads = subst (λ (z : List SectionTokens). Reads [] z (part.Branch v ∷ later)) (sym cut.2) whole;
-          clean = branch_clean b v l.0 k.0 is r.2.2 l.2;
-          says = branch_says at b v l.0 k.0 is r.2.2 l.2 k.2;
-        })
+    let cut = are_append ((symbol.Name n ∷ symbols_of (rest_bits b)) ∷ []) (links ++ rows) ts are in
+    let P : Part → Type 0 = λ p. (v : BranchPart) × (p ≡ part.Branch v) × SaysBranch b v in
+    let r = one_section P [] n (symbols_of (rest_bits b)) cut.0 cut.3 (due_first n (branch_begins b.relative))
+    (λ token last rest g.
+    let v = branch_part_read last b rest is.immediate g in
+    (part.Branch v.0, branch_by b.relative token last rest ∙ v.1, (v.0, refl, v.2))) in
+    let v : BranchPart = r.2.0 in
+    let first : Reads [] cut.0 (part.Branch v ∷ []) = subst (λ (p : Part). Reads [] cut.0 (p ∷ [])) r.2.1 r.1 in
+    let tail = are_append links rows cut.1 cut.4 in
+    let l = link_read (is_nowhere b.mul) b.mul v tail.0 tail.3 in
+    let k = row_read v b.immediate l.0 b.register tail.1 r.2.2.target tail.4 in
+    let later : List Part = link_parts l.0 ++ row_parts b.register k.0 in
+    let behind : Reads (part.Branch v ∷ []) (tail.0 ++ tail.1) later = reads_append (part.Branch v ∷ []) tail.0 tail.1 (link_parts l.0) (row_parts b.register k.0) l.1 k.1 in
+    let moved : Reads (part.Branch v ∷ []) cut.1 later = subst (λ (z : List SectionTokens). Reads (part.Branch v ∷ []) z later) (sym tail.2) behind in
+    let whole : Reads [] (cut.0 ++ cut.1) (part.Branch v ∷ later) = reads_append [] cut.0 cut.1 (part.Branch v ∷ []) later first moved in
+    record {
+      first = part.Branch v;
+      later = later;
+      reads = subst (λ (z : List SectionTokens). Reads [] z (part.Branch v ∷ later)) (sym cut.2) whole;
+      clean = branch_clean b v l.0 k.0 is r.2.2 l.2;
+      says = branch_says at b v l.0 k.0 is r.2.2 l.2 k.2;
+    })

@@ -2,12 +2,11 @@
 use Rattle.std.proofs.Common.{◌≡◌, ℕ, ◌<◌, Bool, true, false, List, [], ◌∷◌, ◌++◌, append_assoc, refl, sym, ap, ◌∙◌, subst, arith}
 use Rattle.std.proofs.lemmas.List.{append-nil}
 use Rattle.std.proofs.lemmas.Bool.Decides.{nat_tests}
-use Rattle.std.specs.Prelude.{◌==◌, ◌&&◌, not, nat_lt, Option, Some, None, IfSome, unwrap_or, Result, Ok, Err, if◌then◌else◌}
+use Rattle.std.specs.Prelude.{◌==◌, nat_lt, fold, Option, Some, None, IfSome, Ok, if◌then◌else◌}
 use Rattle.qpu_token.specs.declared.token.Token.{Token}
 use Rattle.qpu_word.specs.declared.name.Place.{Place}
 use Rattle.qpu_word.specs.declared.name.Place.TheVariants.{Both}
 use Rattle.qpu_word.specs.Words.{between}
-use Rattle.qpu_line.specs.Targets.{address_of}
 use Rattle.qpu_line.specs.Loads.{write_target}
 use Rattle.qpu_line.specs.declared.instruction.Instruction.TheVariants as instruction
 use Rattle.qpu_line.specs.declared.load.Load.{Load}
@@ -18,7 +17,7 @@ use Rattle.qpu_line.specs.declared.name.Name.TheVariants as name
 use Rattle.qpu_line.specs.declared.symbol.Symbol.{Symbol}
 use Rattle.qpu_line.specs.declared.symbol.Symbol.TheVariants as symbol
 use Rattle.qpu_line.specs.Lines.{Bit, Word, Number, Hexadecimal, Comma, Space, symbols_of, behind, and_then, target_bits, condition_bits, flags_bits, write_bits, also_bits, load_bits}
-use Rattle.qpu_line.specs.Worded.{IsWrite, IsLoad, IsTarget, is_exchanged_load}
+use Rattle.qpu_line.specs.Worded.{IsWrite, IsLoad, is_exchanged_load}
 use Rattle.qpu_asm.specs.declared.placed.Placed.{Placed}
 use Rattle.qpu_asm.specs.declared.piece.Core.{Core}
 use Rattle.qpu_asm.specs.declared.piece.Core.TheVariants as core
@@ -32,7 +31,6 @@ use Rattle.qpu_asm.specs.declared.part.Part.TheVariants as part
 use Rattle.qpu_asm.specs.declared.line.Line.TheVariants.{Says}
 use Rattle.qpu_asm.specs.declared.mark.What.TheVariants as what
 use Rattle.qpu_asm.specs.declared.mark.Mark.{Mark}
-use Rattle.qpu_asm.specs.Reading.{go_on, ended}
 use Rattle.qpu_asm.specs.Pieces.{bare, suffix_at, comma_at, target_core, value_core}
 use Rattle.qpu_asm.specs.Parts.{suffixes_at, load_part, also_part, part_by}
 use Rattle.qpu_asm.specs.SectionTokens.{SectionTokens}
@@ -41,10 +39,10 @@ use Rattle.qpu_asm.specs.Judging.{cross, line_fault}
 use Rattle.qpu_asm.specs.Meanings.{place_of, is_nowhere, number_of, condition_in, sets_in, write_in, also_in, load_of_part, meaning}
 use Rattle.qpu_asm.specs.LinesRead.{read_line}
 use Rattle.qpu_asm.proofs.AgainSpelled.{Spelled, symbols_append}
-use Rattle.qpu_asm.proofs.AgainPieces.{Stops, NoDot, ends_stops, maybe_suffix, Suffixed, suffix_read, SaysSuffixes, suffixes_read, SaysCore, target_core_read, target_no_dot, value_number}
+use Rattle.qpu_asm.proofs.AgainPieces.{place_by, NoDot, ends_stops, maybe_suffix, Suffixed, suffix_read, SaysSuffixes, suffixes_read, SaysCore, target_core_read, target_no_dot, value_number}
 use Rattle.qpu_asm.proofs.AgainUnits.{condition_suffix, condition_is, comma_ends, comma_read, nothing_ends}
-use Rattle.qpu_asm.proofs.AgainSections.{Plain, bits_plain, AllPlain, AllBegin, tails, AreSections, Reads, IsLine, line_read}
-use Rattle.qpu_asm.proofs.AgainMarks.{Given, NoTarget, Only, AnyTarget, Clean, clean_start, clean_first, clean_second, no_fault}
+use Rattle.qpu_asm.proofs.AgainSections.{Plain, bits_plain, AllPlain, AllBegin, tails, AreSections, Reads, line_read}
+use Rattle.qpu_asm.proofs.AgainMarks.{Given, nothing_given, marks_are, NoTarget, Only, AnyTarget, Clean, clean_start, clean_first, clean_second, no_fault}
 use Rattle.qpu_asm.proofs.AgainSources.{suffixes_clean, condition_back, sets_back}
 use Rattle.qpu_asm.proofs.AgainHeld.{no_cross}
 use Rattle.qpu_asm.proofs.AgainPlain.{suffix_plain, flags_plain, target_plain}
@@ -90,10 +88,11 @@ load_part_read end l xs near h =
     let s = suffixes_read (condition_suffix (write_condition l.add)) l.sets (Space ∷ (target_bits to ++ behind_target)) xs [] h (λ mid g. target_no_dot to behind_target mid [] g) in
     let t = target_core_read end to behind_target s.0 [] s.1 (λ mid g. ends_stops mid (comma_ends (Space ∷ Number (Hexadecimal l.immediate) ∷ []) mid [] g)) in
     let c = comma_read end (Space ∷ Number (Hexadecimal l.immediate) ∷ []) t.0 [] t.1 in
-    let v = value_read end l.immediate c.0 near c.1 in
-    (record { kind = l.kind; suffixes = s.2; to = bare t.2 t.3; value = bare (core.Number l.immediate) v.0 },
-    load_step l.kind end xs s.0 t.0 c.0 s.2 (bare t.2 t.3) (bare (core.Number l.immediate) v.0) s.3 t.4 c.2 v.1,
-    record { kind = refl; suffixes = s.4; to = t.5; value = refl })
+    let v = value_read end l.immediate c.0 near c.1 in (
+      record { kind = l.kind; suffixes = s.2; to = bare t.2 t.3; value = bare (core.Number l.immediate) v.0 },
+      load_step l.kind end xs s.0 t.0 c.0 s.2 (bare t.2 t.3) (bare (core.Number l.immediate) v.0) s.3 t.4 c.2 v.1,
+      record { kind = refl; suffixes = s.4; to = t.5; value = refl },
+    )
 
 -- the second target
 
@@ -148,9 +147,9 @@ also_sections_read None v ts are = (None, no_section (part.Load v ∷ []) ts are
 also_sections_read (Some w) v ts are =
     let P : Part → Type 0 = λ p. (a : AlsoPart) × (p ≡ part.Also a) × Suffixed (condition_suffix w.cond) a.suffix × SaysCore w.to a.to.core in
     let r = one_section P (part.Load v ∷ []) name.Also (symbols_of (also_rest w)) ts are (due_behind (part.Load v) [] name.Also refl)
-        (λ token end rest g.
-            let a = also_read end w rest g in
-            (part.Also a.0, also_part_by token end rest ∙ a.1, (a.0, refl, a.2, a.3))) in
+    (λ token end rest g.
+    let a = also_read end w rest g in
+    (part.Also a.0, also_part_by token end rest ∙ a.1, (a.0, refl, a.2, a.3))) in
     let reads : Reads (part.Load v ∷ []) ts (part.Also r.2.0 ∷ []) = subst (λ (p : Part). Reads (part.Load v ∷ []) ts (p ∷ [])) r.2.1 r.1 in
     (Some r.2.0, reads, (r.2.0, refl, r.2.2, r.2.3))
 
@@ -165,9 +164,6 @@ single_back cond s named h = single_by cond (nat_lt cond 2) s refl named h
 
 cond_named : (w : Write) → IsWrite w → between 1 w.cond 7 ≡ true
 cond_named w is = let some : (w.cond == 0) ≡ false = is.some in let near : w.cond < 8 = is.cond in grind (arith, nat_tests, some)
-
-place_by : (o : Option Place) (to other : Place) → o ≡ Some to → unwrap_or o other ≡ to
-place_by o to other e = rw e refl
 
 write_some : (w : Write) (to : Place) (s : Option Suffix) → to ≡ w.to → IsWrite w → condition_in s ≡ w.cond → write_in to s ≡ Some w
 write_some w to s e is f = let nowhere : is_nowhere to ≡ false = ap is_nowhere e ∙ is.somewhere in rw (nowhere, f, e) refl
@@ -192,13 +188,10 @@ unfolding meaning load_of_part
 load_says at l v a is says also =
     ap (λ z. instruction.Load z)
     (same_load l v.kind (sets_in v.suffixes) (write_in (place_of v.to.core) v.suffixes.first) (also_in (also_parts a)) (number_of v.value.core) says.kind
-        (sets_back (write_condition l.add) l.sets v.suffixes says.suffixes) (add_back l.add l.sets v.suffixes v.to.core is.add says.suffixes says.to)
-        (also_back l.mul a is.mul also) (ap number_of says.value))
+    (sets_back (write_condition l.add) l.sets v.suffixes says.suffixes) (add_back l.add l.sets v.suffixes v.to.core is.add says.suffixes says.to)
+    (also_back l.mul a is.mul also) (ap number_of says.value))
 
 -- no fault
-
-dummy : Given
-dummy = record { small = false; a = 0; unpack = 0; b = 0; adds = false; turns = false }
 
 value_marks : (p : Piece) (n : ℕ) (ms : List Mark) → p.core ≡ core.Number n → any_number p ms ≡ ms
 value_marks p n ms e = rw e refl
@@ -222,7 +215,7 @@ not_nowhere : (w : Write) → IsWrite w → w.to ≡ Both 39 → ⊥
 not_nowhere w is e = let no : true ≡ false = sym (ap is_nowhere e) ∙ is.somewhere in cc
 
 second_clean : (g : Given) (p : Place) (o : Option Write) (a : Option AlsoPart) (ms : List Mark) → IfSome o IsWrite → SaysAlso o a → cross p (write_target o) ≡ false
-    → Clean (Only p) g ms → (W : Place → Type 0) × Clean W g (Rattle.std.specs.Prelude.fold (part_marks true) ms (also_parts a))
+    → Clean (Only p) g ms → (W : Place → Type 0) × Clean W g (fold (part_marks true) ms (also_parts a))
 unfolding part_marks also_marks
 second_clean g p None a ms is h apart c = (Only p, rw h c)
 second_clean g p (Some w) a ms is h apart c =
@@ -231,15 +224,11 @@ second_clean g p (Some w) a ms is h apart c =
     let written = clean_second (Only p) g w.to h.0.to.token ms (λ q e. subst (λ (z : Place). cross z w.to ≡ false) (sym e) apart) c in
     (AnyTarget, rw (h.1, same, place_marked (somewhere h.0.to.core) w.to h.0.to.token ms there) written)
 
-marks_are : (f : Part) (later : List Part) → marks_of (f ∷ later) ≡ Rattle.std.specs.Prelude.fold (part_marks true) (part_marks false [] f) later
-unfolding marks_of
-marks_are f later = refl
-
 load_clean : (l : Load) (v : LoadPart) (a : Option AlsoPart) → IsLoad l → SaysLoad l v → SaysAlso l.mul a → line_fault (marks_of (part.Load v ∷ also_parts a)) ≡ None
 load_clean l v a is says also =
     let apart : cross (write_target l.add) (write_target l.mul) ≡ false = no_cross (is_exchanged_load l) (write_target l.add) (write_target l.mul) is.add_to is.mul_to in
-    let c = second_clean dummy (write_target l.add) l.mul a (part_marks false [] (part.Load v)) is.mul also apart (first_clean dummy l v says) in
-    rw (marks_are (part.Load v) (also_parts a)) (no_fault c.0 dummy _ c.1)
+    let c = second_clean nothing_given (write_target l.add) l.mul a (part_marks false [] (part.Load v)) is.mul also apart (first_clean nothing_given l v says) in
+    rw (marks_are (part.Load v) (also_parts a)) (no_fault c.0 nothing_given _ c.1)
 
 -- its line
 
@@ -254,7 +243,7 @@ unfolding load_bits
 load_bits_are l =
     rw (write_is l.add)
     (load_five (Word (name.Load l.kind)) (maybe_suffix (condition_suffix (write_condition l.add))) (flags_bits l.sets) (Space ∷ target_bits (write_target l.add))
-        (and_then (Number (Hexadecimal l.immediate) ∷ [])) (also_bits l.mul))
+    (and_then (Number (Hexadecimal l.immediate) ∷ [])) (also_bits l.mul))
 
 load_symbols : (l : Load) → symbols_of (load_bits l) ≡ (symbol.Name (name.Load l.kind) ∷ symbols_of (rest_bits l)) ++ tails (also_sections l.mul)
 load_symbols l =
@@ -285,20 +274,20 @@ load_read at end l xs is h =
     let spelled : Spelled ((symbol.Name n ∷ symbols_of (rest_bits l)) ++ tails ss) xs [] = subst (λ (z : List Symbol). Spelled z xs []) (load_symbols l) h in
     line_read at end n (symbols_of (rest_bits l)) ss xs (instruction.Load l) (rest_plain l) (also_plain l.mul) refl (also_begins l.mul) spelled
     (λ ts are.
-        let cut = are_append ((symbol.Name n ∷ symbols_of (rest_bits l)) ∷ []) ss ts are in
-        let P : Part → Type 0 = λ p. (v : LoadPart) × (p ≡ part.Load v) × SaysLoad l v in
-        let r = one_section P [] n (symbols_of (rest_bits l)) cut.0 cut.3 (due_first n refl)
-            (λ token last rest g.
-                let v = load_part_read last l rest is.immediate g in
-                (part.Load v.0, load_part_by l.kind token last rest ∙ v.1, (v.0, refl, v.2))) in
-        let v : LoadPart = r.2.0 in
-        let first : Reads [] cut.0 (part.Load v ∷ []) = subst (λ (p : Part). Reads [] cut.0 (p ∷ [])) r.2.1 r.1 in
-        let a = also_sections_read l.mul v cut.1 cut.4 in
-        let whole : Reads [] (cut.0 ++ cut.1) (part.Load v ∷ also_parts a.0) = reads_append [] cut.0 cut.1 (part.Load v ∷ []) (also_parts a.0) first a.1 in
-        record {
-          first = part.Load v;
-          later = also_parts a.0;
-          reads = subst (λ (z : List SectionTokens). Reads [] z (part.Load v ∷ also_parts a.0)) (sym cut.2) whole;
-          clean = load_clean l v a.0 is r.2.2 a.2;
-          says = load_says at l v a.0 is r.2.2 a.2;
-        })
+    let cut = are_append ((symbol.Name n ∷ symbols_of (rest_bits l)) ∷ []) ss ts are in
+    let P : Part → Type 0 = λ p. (v : LoadPart) × (p ≡ part.Load v) × SaysLoad l v in
+    let r = one_section P [] n (symbols_of (rest_bits l)) cut.0 cut.3 (due_first n refl)
+    (λ token last rest g.
+    let v = load_part_read last l rest is.immediate g in
+    (part.Load v.0, load_part_by l.kind token last rest ∙ v.1, (v.0, refl, v.2))) in
+    let v : LoadPart = r.2.0 in
+    let first : Reads [] cut.0 (part.Load v ∷ []) = subst (λ (p : Part). Reads [] cut.0 (p ∷ [])) r.2.1 r.1 in
+    let a = also_sections_read l.mul v cut.1 cut.4 in
+    let whole : Reads [] (cut.0 ++ cut.1) (part.Load v ∷ also_parts a.0) = reads_append [] cut.0 cut.1 (part.Load v ∷ []) (also_parts a.0) first a.1 in
+    record {
+      first = part.Load v;
+      later = also_parts a.0;
+      reads = subst (λ (z : List SectionTokens). Reads [] z (part.Load v ∷ also_parts a.0)) (sym cut.2) whole;
+      clean = load_clean l v a.0 is r.2.2 a.2;
+      says = load_says at l v a.0 is r.2.2 a.2;
+    })

@@ -1,29 +1,25 @@
 -- The part of a unit of a canonical line is read.
-use Rattle.std.proofs.Common.{◌≡◌, ℕ, ◌+◌, ◌-◌, ◌*◌, ◌<◌, ◌≤◌, Bool, true, false, List, [], ◌∷◌, ◌++◌, refl, sym, ap, ◌∙◌, append_assoc, subst, arith}
+use Rattle.std.proofs.Common.{◌≡◌, ℕ, Bool, true, false, List, [], ◌∷◌, ◌++◌, refl, ap, append_assoc}
 use Rattle.std.proofs.lemmas.List.{append-nil}
-use Rattle.std.specs.Prelude.{◌==◌, not, nat_lt, Option, Some, None, Result, Ok, Err, if◌then◌else◌}
+use Rattle.std.specs.Prelude.{◌==◌, nat_lt, Option, Some, None, Ok, if◌then◌else◌}
 use Rattle.qpu_token.specs.declared.token.Token.{Token}
 use Rattle.qpu_line.specs.declared.operand.Operand.{Operand}
 use Rattle.qpu_line.specs.declared.part.Part.{Part as UnitDoes}
 use Rattle.qpu_line.specs.declared.name.Name.{Name}
 use Rattle.qpu_line.specs.declared.name.Name.TheVariants as name
 use Rattle.qpu_line.specs.declared.symbol.Symbol.TheVariants as symbol
-use Rattle.qpu_line.specs.Lines.{Bit, Word, Comma, Space, Dot, symbols_of, suffix, condition_bits, flags_bits, pack_bits, target_bits, operand_bits, and_then, part_bits}
+use Rattle.qpu_line.specs.Lines.{Bit, Word, Comma, Space, symbols_of, suffix, condition_bits, flags_bits, pack_bits, target_bits, operand_bits, and_then, part_bits}
 use Rattle.qpu_line.specs.Named.{IsNamedOperand, IsNamedPart}
 use Rattle.qpu_asm.specs.declared.placed.Placed.{Placed}
-use Rattle.qpu_asm.specs.declared.piece.Core.{Core}
-use Rattle.qpu_asm.specs.declared.piece.Suffix.{Suffix}
 use Rattle.qpu_asm.specs.declared.piece.Piece.{Piece}
 use Rattle.qpu_asm.specs.declared.part.Suffixes.{Suffixes}
 use Rattle.qpu_asm.specs.declared.part.UnitPart.{UnitPart}
-use Rattle.qpu_asm.specs.declared.part.Part.{Part}
 use Rattle.qpu_asm.specs.declared.part.Part.TheVariants as part
-use Rattle.qpu_asm.specs.Reading.{Read, go_on, ended}
 use Rattle.qpu_asm.specs.Pieces.{comma_at, target_at, operand_at}
 use Rattle.qpu_asm.specs.Parts.{suffixes_at, one_operand, two_operands, operands_at, unit_part}
 use Rattle.qpu_asm.specs.Roles.{takes_one}
 use Rattle.qpu_asm.proofs.AgainSpelled.{Spelled}
-use Rattle.qpu_asm.proofs.AgainPieces.{Ends, NoDot, maybe_suffix, Suffixed, SaysSuffixes, suffixes_read, SaysCore, target_no_dot, target_read}
+use Rattle.qpu_asm.proofs.AgainPieces.{Ends, maybe_suffix, Suffixed, SaysSuffixes, suffixes_read, SaysCore, target_no_dot, target_read}
 use Rattle.qpu_asm.proofs.AgainOperands.{SaysOperand, operand_read}
 
 abbrev pub condition_suffix : ℕ → Option Name
@@ -126,8 +122,8 @@ pub part_bits_are : (op : Name) (one sets : Bool) (p : UnitDoes) → part_bits o
 part_bits_are op one sets p =
     rw (condition_is p.cond, pack_is p.pack)
     (ap (λ z. Word op ∷ z)
-        (six (maybe_suffix (condition_suffix p.cond)) (flags_bits sets) (Space ∷ target_bits p.to) (maybe_suffix (pack_suffix p.pack)) (and_then (operand_bits p.a))
-            (if one then [] else and_then (operand_bits p.b))))
+    (six (maybe_suffix (condition_suffix p.cond)) (flags_bits sets) (Space ∷ target_bits p.to) (maybe_suffix (pack_suffix p.pack)) (and_then (operand_bits p.a))
+    (if one then [] else and_then (operand_bits p.b))))
 
 pub unit_read : (op : Name) (one sets : Bool) (token end : Token) (p : UnitDoes) (xs : List Placed) → takes_one op ≡ one → (one ≡ true → p.b ≡ p.a) → IsNamedPart p
     → Spelled (symbols_of (unit_bits one sets p)) xs []
@@ -138,7 +134,8 @@ unit_read op one sets token end p xs takes twice named h =
     let s = suffixes_read (condition_suffix p.cond) sets (Space ∷ (target_bits p.to ++ behind)) xs [] h (λ mid g. target_no_dot p.to behind mid [] g) in
     let t = target_read end p.to (pack_suffix p.pack) (Comma ∷ Space ∷ both) s.0 [] s.1 (λ mid g. comma_ends (Space ∷ both) mid [] g) in
     let c = comma_read end (Space ∷ both) t.0 [] t.1 in
-    let o = operands_read op one end p.a p.b c.0 takes twice named.a named.b c.1 in
-    (record { op = op; token = token; suffixes = s.2; to = t.2; a = o.0; b = o.1 },
-    unit_step op token end xs s.0 t.0 c.0 s.2 t.2 o.0 o.1 s.3 t.3 c.2 o.2,
-    record { op = refl; suffixes = s.4; to = t.4; pack = t.5; a = o.3; b = o.4 })
+    let o = operands_read op one end p.a p.b c.0 takes twice named.a named.b c.1 in (
+      record { op = op; token = token; suffixes = s.2; to = t.2; a = o.0; b = o.1 },
+      unit_step op token end xs s.0 t.0 c.0 s.2 t.2 o.0 o.1 s.3 t.3 c.2 o.2,
+      record { op = refl; suffixes = s.4; to = t.4; pack = t.5; a = o.3; b = o.4 },
+    )

@@ -1,7 +1,7 @@
 //! The assembler's last stage, and the assembler whole.
 #![tactic(auto)]
 
-pub mod again;
+mod again;
 mod assembly;
 mod expression;
 mod judge;
@@ -17,4 +17,5 @@ mod roles;
 mod section;
 mod stop;
 
+pub use again::canonical_lines_are_read;
 pub use assembly::assemble;
