@@ -14,3 +14,5 @@ pub mod Meanings
 pub mod Answers
 pub mod LinesRead
 pub mod Assembly
+pub mod Laws
+pub mod HexLines

@@ -1,0 +1,26 @@
+//! Laws of lines. Each is a function without a body; its clause is the law.
+ghost use Rattle.std.specs.Prelude.{◌≡◌, ◌↔◌, ℕ, List, Ok, All};
+ghost use Rattle.qpu_token.specs.declared.token.Token.{Token as TokenOf};
+ghost use Rattle.qpu_line.specs.declared.instruction.Instruction.{Instruction as InstructionOf};
+ghost use Rattle.qpu_line.specs.Named.{HasWord};
+ghost use Rattle.qpu_asm.specs.declared.placed.Placed.{Placed as PlacedOf};
+ghost use Rattle.qpu_asm.specs.declared.line.Line.TheVariants.{Raw, Says};
+ghost use Rattle.qpu_asm.specs.Placed.{placed, Labels};
+ghost use Rattle.qpu_asm.specs.LinesRead.{read_line};
+ghost use Rattle.qpu_asm.specs.Laws.{IsProper, symbols_of, word_symbols};
+
+/// The names among a text's tokens are names of the language.
+#[tactic(auto, using(crate::proofs::ProperTokens::placed_proper))]
+pub fn placed_tokens_are_proper()
+    ensures { (text : List ℕ) (labels : Labels) (token : TokenOf) → IsProper (placed text labels token) }
+{}
+
+/// What a line says has a canonical word.
+pub fn lines_have_words()
+    ensures { (at : ℕ) (end : TokenOf) (xs : List PlacedOf) (i : InstructionOf) → All IsProper xs → read_line at end xs ≡ Ok (Says i) → HasWord i }
+{}
+
+/// A line's word stands as it is written exactly where the line is `.word` and a number.
+pub fn raw_lines_are_words()
+    ensures { (at : ℕ) (end : TokenOf) (xs : List PlacedOf) (n : ℕ) → read_line at end xs ≡ Ok (Raw n) ↔ symbols_of xs ≡ word_symbols n }
+{}
