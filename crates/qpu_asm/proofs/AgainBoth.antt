@@ -1,9 +1,9 @@
 -- The sections of a line of both units are read as its parts.
-use Rattle.std.proofs.Common.{◌≡◌, ℕ, ◌+◌, ◌-◌, ◌<◌, ◌≤◌, Bool, true, false, List, [], ◌∷◌, ◌++◌, append_assoc, refl, sym, ap, ◌∙◌, subst, arith}
-use Rattle.std.proofs.lemmas.List.{append-nil}
+use Rattle.std.proofs.Common.{◌≡◌, ℕ, ◌-◌, ◌<◌, ◌≤◌, Bool, true, false, List, [], ◌∷◌, ◌++◌, append_assoc, refl, sym, ap, ◌∙◌, subst, arith}
 use Rattle.std.proofs.lemmas.Bool.Decides.{nat_tests}
-use Rattle.std.specs.Prelude.{◌==◌, ◌&&◌, ◌||◌, ◌%◌, not, nat_lt, nat_le, fold, Option, Some, None, IfSome, IsSomeAnd, is_some, unwrap_or, Result, Ok, Err, if◌then◌else◌}
+use Rattle.std.specs.Prelude.{◌==◌, ◌&&◌, ◌||◌, not, nat_le, Option, Some, None, IfSome, IsSomeAnd, is_some, Ok, if◌then◌else◌}
 use Rattle.qpu_token.specs.declared.token.Token.{Token}
+use Rattle.qpu_word.specs.declared.operation.AddOp.{AddOp}
 use Rattle.qpu_word.specs.Words.{between, is_unary}
 use Rattle.qpu_word.specs.Operations.{add_op, mul_op}
 use Rattle.qpu_line.specs.declared.part.Part.{Part as UnitDoes}
@@ -24,19 +24,18 @@ use Rattle.qpu_asm.specs.declared.part.UnitPart.{UnitPart}
 use Rattle.qpu_asm.specs.declared.part.Part.{Part}
 use Rattle.qpu_asm.specs.declared.part.Part.TheVariants as part
 use Rattle.qpu_asm.specs.declared.mark.Mark.{Mark}
-use Rattle.qpu_asm.specs.Reading.{go_on, ended}
 use Rattle.qpu_asm.specs.Pieces.{bare}
 use Rattle.qpu_asm.specs.Parts.{last_value, last_name, unit_part, part_by}
-use Rattle.qpu_asm.specs.Orders.{begins, extra, unit_follows, follows, is_empty, second}
+use Rattle.qpu_asm.specs.Orders.{extra, follows, is_empty, second}
 use Rattle.qpu_asm.specs.Roles.{op_in_add, op_in_mul, is_mnemonic}
 use Rattle.qpu_asm.specs.SectionTokens.{SectionTokens}
 use Rattle.qpu_asm.specs.Marks.{rotation_marks}
 use Rattle.qpu_asm.specs.Meanings.{rotation_of}
-use Rattle.qpu_asm.proofs.AgainSpelled.{Spelled, symbols_append}
+use Rattle.qpu_asm.proofs.AgainSpelled.{Spelled, symbols_append, never}
 use Rattle.qpu_asm.proofs.AgainUnits.{SaysUnit, unit_bits, part_bits_are, unit_read}
 use Rattle.qpu_asm.proofs.AgainSections.{Plain, AllPlain, AllBegin, tails, tails_append, AreSections, Reads}
 use Rattle.qpu_asm.proofs.AgainPlain.{unit_plain}
-use Rattle.qpu_asm.proofs.AgainOps.{IsAddOp, add_known, IsMulOp, mul_known}
+use Rattle.qpu_asm.proofs.AgainOps.{add_known, mul_known}
 use Rattle.qpu_asm.proofs.AgainForms.{due_first, due_behind, one_section, no_section, behind_symbols, last_number, last_word, last_source}
 
 -- a unit's part by what the unit does
@@ -70,7 +69,7 @@ nop_step : (token end : Token) (xs : List Placed) → xs ≡ [] → part_by name
 unfolding part_by
 nop_step token end xs e = rw e refl
 
-add_by : (op : Rattle.qpu_word.specs.declared.operation.AddOp.AddOp) (token end : Token) (xs : List Placed) → part_by (name.Add op) token end xs ≡ unit_part (name.Add op) token end xs
+add_by : (op : AddOp) (token end : Token) (xs : List Placed) → part_by (name.Add op) token end xs ≡ unit_part (name.Add op) token end xs
 unfolding part_by
 add_by op token end xs = refl
 
@@ -120,9 +119,6 @@ mul_sections sets (Some p) = (symbol.Name (mul_name (mul_op p.op)) ∷ symbols_o
 pub mul_tails : (sets : Bool) (o : Option UnitDoes) → symbols_of (mul_bits sets o) ≡ tails (mul_sections sets o)
 mul_tails sets None = refl
 mul_tails sets (Some p) = ap (λ z. symbols_of (behind z)) (part_bits_are (mul_name (mul_op p.op)) false sets p) ∙ behind_symbols (Word (mul_name (mul_op p.op)) ∷ unit_bits false sets p)
-
-never : false ≡ true → ⊥
-never e = cc
 
 pub mul_read : (sets : Bool) (o : Option UnitDoes) (f : Option UnitPart) (ts : List SectionTokens) → IfSome o IsMulPart → AreSections (mul_sections sets o) ts
     → (m : Option UnitPart) × Reads (head_part f ∷ []) ts (unit_parts m) × SaysActive op_in_mul sets o m

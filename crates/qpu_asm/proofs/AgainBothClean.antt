@@ -1,8 +1,8 @@
 -- The parts of a line of both units have no fault.
-use Rattle.std.proofs.Common.{◌≡◌, ℕ, ◌<◌, Bool, true, false, List, [], ◌∷◌, ◌++◌, refl, sym, ap, ◌∙◌, subst, arith}
+use Rattle.std.proofs.Common.{◌≡◌, ℕ, Bool, true, false, List, [], ◌∷◌, ◌++◌, refl, sym, ◌∙◌, subst, arith}
 use Rattle.std.proofs.lemmas.List.Sums.{fold-append}
 use Rattle.std.proofs.lemmas.Bool.Decides.{nat_tests}
-use Rattle.std.specs.Prelude.{◌==◌, ◌&&◌, ◌||◌, not, nat_lt, nat_le, fold, Option, Some, None, IfSome, IsSomeAnd, is_some, if◌then◌else◌}
+use Rattle.std.specs.Prelude.{◌==◌, ◌&&◌, ◌||◌, not, nat_lt, nat_le, fold, Option, Some, None, IfSome, IsSomeAnd, is_some}
 use Rattle.qpu_token.specs.declared.token.Token.{Token}
 use Rattle.qpu_word.specs.declared.name.Place.{Place}
 use Rattle.qpu_line.specs.declared.operand.Operand.{Operand}
@@ -12,28 +12,25 @@ use Rattle.qpu_line.specs.declared.units.Signal.{Signal}
 use Rattle.qpu_line.specs.declared.units.Signal.TheVariants.{Nothing, End, Load0, Load1, Rotate}
 use Rattle.qpu_line.specs.declared.units.Units.{Units}
 use Rattle.qpu_line.specs.declared.slots.UnitFields.{UnitFields}
-use Rattle.qpu_line.specs.declared.name.Name.{Name}
 use Rattle.qpu_line.specs.Lines.{source_a, source_b}
 use Rattle.qpu_line.specs.Units.{fields_of_units, any_uses, signal_of, other_read}
-use Rattle.qpu_line.specs.Both.{IsPart, IsHeld, IsBoth}
-use Rattle.qpu_line.specs.Named.{IsNamedPart, IsAddPart, IsMulPart, IsNamedSignal, is_turned, CanTurn, IsOther, is_source, IsNamed}
-use Rattle.qpu_asm.specs.declared.piece.Core.TheVariants as core
+use Rattle.qpu_line.specs.Worded.{IsTarget}
+use Rattle.qpu_line.specs.Both.{IsPart, IsBoth}
+use Rattle.qpu_line.specs.Named.{IsAddPart, IsMulPart, IsNamedSignal, is_turned, CanTurn, IsOther, is_source, IsNamed}
 use Rattle.qpu_asm.specs.declared.piece.Piece.{Piece}
 use Rattle.qpu_asm.specs.declared.part.UnitPart.{UnitPart}
 use Rattle.qpu_asm.specs.declared.part.Part.{Part}
-use Rattle.qpu_asm.specs.declared.part.Part.TheVariants as part
 use Rattle.qpu_asm.specs.declared.mark.What.TheVariants as what
 use Rattle.qpu_asm.specs.declared.mark.Mark.{Mark}
 use Rattle.qpu_asm.specs.Roles.{source_of, op_in_add, op_in_mul}
-use Rattle.qpu_asm.specs.Pieces.{bare}
-use Rattle.qpu_asm.specs.Marks.{mark, other_a, other_b, rotation_marks, unit_marks, part_marks, marks_of}
+use Rattle.qpu_asm.specs.Marks.{mark, other_a, other_b, part_marks, marks_of}
 use Rattle.qpu_asm.specs.Judging.{cross, line_fault}
-use Rattle.qpu_asm.proofs.AgainUnits.{SaysUnit}
+use Rattle.qpu_asm.proofs.AgainSpelled.{never}
 use Rattle.qpu_asm.proofs.AgainOperands.{source_a_is, source_b_is}
-use Rattle.qpu_asm.proofs.AgainMarks.{Given, NoTarget, Only, AnyTarget, Clean, clean_start, clean_mark, clean_first, clean_second, no_fault}
-use Rattle.qpu_asm.proofs.AgainHeld.{no_cross, is_rotation, is_plain_signal, rotation_held, signal_held, given_of, holds_of, other_held, both_false}
+use Rattle.qpu_asm.proofs.AgainMarks.{marks_are, Given, NoTarget, Only, AnyTarget, Clean, clean_start, clean_mark, clean_first, clean_second, no_fault}
+use Rattle.qpu_asm.proofs.AgainHeld.{no_cross, is_rotation, rotation_held, signal_held, given_of, holds_of, other_held, both_false}
 use Rattle.qpu_asm.proofs.AgainUnitParts.{unit_clean}
-use Rattle.qpu_asm.proofs.AgainBoth.{SaysActive, head_part, unit_parts, Told, silent, signals, turned, told_parts, SaysRotation, SaysSignal, SaysOther, a_parts, b_parts}
+use Rattle.qpu_asm.proofs.AgainBoth.{SaysActive, head_part, unit_parts, Told, told_parts, SaysSignal, SaysOther, a_parts, b_parts}
 use Rattle.qpu_asm.proofs.AgainBothSays.{later_parts, SaysBoth}
 
 -- what a rotation asks
@@ -50,21 +47,12 @@ two_true true true e = (refl, refl)
 two_true true false e = absurd cc
 two_true false b e = absurd cc
 
-never : false ≡ true → ⊥
-never e = cc
-
 -- the first part
 
 -- targets behind the first part
 abbrev AddTarget : Option UnitDoes → Place → Type 0
 AddTarget None = NoTarget
 AddTarget (Some p) = Only p.to
-
-some_is : (o : Option UnitDoes) (p : UnitDoes) → o ≡ Some p → is_some o ≡ true
-some_is o p e = rw e refl
-
-unfit : (s : UnitFields) (adds turns : Bool) (signal : Signal) → signal_of s.sig s.raddr_b ≡ signal → is_rotation signal ≡ turns → turns ≡ true → nat_le 48 s.raddr_b ≡ true
-unfit s adds turns signal is e f = (rotation_held s.sig s.raddr_b signal is (e ∙ f)).1
 
 head_clean : (s : UnitFields) (in_b sets adds turns : Bool) (o : Option UnitDoes) (f : Option UnitPart) → is_some o ≡ adds → (turns ≡ true → nat_le 48 s.raddr_b ≡ true)
     → IfSome o IsAddPart → IfSome o (IsPart s in_b) → SaysActive op_in_add sets o f → Clean (AddTarget o) (given_of s adds turns) (part_marks false [] (head_part f))
@@ -80,7 +68,7 @@ head_clean s in_b sets adds turns (Some p) f some far named held says =
 
 -- the mul unit's part
 
-mul_apart : (s : UnitFields) (add : Option UnitDoes) (q : Place) → IfSome add (IsPart s (s.ws == 1)) → Rattle.qpu_line.specs.Worded.IsTarget (not (s.ws == 1)) q
+mul_apart : (s : UnitFields) (add : Option UnitDoes) (q : Place) → IfSome add (IsPart s (s.ws == 1)) → IsTarget (not (s.ws == 1)) q
     → (p : Place) → AddTarget add p → cross p q ≡ false
 mul_apart s None q held to p h = absurd h
 mul_apart s (Some d) q held to p h = subst (λ (z : Place). cross z q ≡ false) (sym h) (no_cross (s.ws == 1) d.to q held.target to)
@@ -150,10 +138,6 @@ b_clean W s adds turns (Some n) b ms is named says c =
     rw (says.1, b_marked (source_of (source_b n)) n says.0 ms (source_b_is n) (high_by n (is_source n) named)) (clean_mark W (given_of s adds turns) (what.ReadsB n) says.0 ms (other.1, free) c)
 
 -- the whole line
-
-marks_are : (f : Part) (later : List Part) → marks_of (f ∷ later) ≡ fold (part_marks true) (part_marks false [] f) later
-unfolding marks_of
-marks_are f later = refl
 
 four_folds : (start : List Mark) (a b c d : List Part) → fold (part_marks true) start (a ++ (b ++ (c ++ d)))
     ≡ fold (part_marks true) (fold (part_marks true) (fold (part_marks true) (fold (part_marks true) start a) b) c) d

@@ -1,11 +1,7 @@
 -- The parts of a line of both units mean its instruction, and have no fault.
-use Rattle.std.proofs.Common.{◌≡◌, ℕ, ◌<◌, Bool, true, false, List, [], ◌∷◌, ◌++◌, refl, sym, ap, ◌∙◌, subst, arith}
-use Rattle.std.proofs.lemmas.List.Sums.{fold-append}
-use Rattle.std.proofs.lemmas.Bool.Decides.{nat_tests}
-use Rattle.std.specs.Prelude.{◌==◌, ◌&&◌, ◌||◌, not, nat_lt, nat_le, fold, Option, Some, None, IfSome, IsSomeAnd, is_some, unwrap_or, if◌then◌else◌}
+use Rattle.std.proofs.Common.{◌≡◌, ℕ, Bool, true, false, List, ◌++◌, refl, ap, ◌∙◌}
+use Rattle.std.specs.Prelude.{◌==◌, ◌&&◌, ◌||◌, not, Option, Some, None, IfSome, is_some, unwrap_or}
 use Rattle.std.specs.Option.{option_or}
-use Rattle.qpu_token.specs.declared.token.Token.{Token}
-use Rattle.qpu_word.specs.declared.name.Place.{Place}
 use Rattle.qpu_line.specs.declared.operand.Operand.{Operand}
 use Rattle.qpu_line.specs.declared.operand.Operand.TheVariants.{FileA, FileB}
 use Rattle.qpu_line.specs.declared.part.Part.{Part as UnitDoes}
@@ -16,29 +12,19 @@ use Rattle.qpu_line.specs.declared.slots.UnitFields.{UnitFields}
 use Rattle.qpu_line.specs.declared.instruction.Instruction.TheVariants as instruction
 use Rattle.qpu_line.specs.declared.name.Name.{Name}
 use Rattle.qpu_line.specs.Lines.{source_a, source_b}
-use Rattle.qpu_line.specs.Units.{fields_of_units, any_uses, part_uses, signal_of, other_read, op_of, cond_of, first_of, second_of}
-use Rattle.qpu_line.specs.Worded.{IsTarget}
-use Rattle.qpu_line.specs.Both.{IsPart, IsHeld, IsBoth}
-use Rattle.qpu_line.specs.Named.{IsNamedPart, IsAddPart, IsMulPart, IsNamedSignal, is_turned, CanTurn, IsOther, is_source, IsNamed}
-use Rattle.qpu_asm.specs.declared.piece.Core.TheVariants as core
+use Rattle.qpu_line.specs.Units.{fields_of_units, any_uses, part_uses, op_of, cond_of, first_of, second_of}
+use Rattle.qpu_line.specs.Both.{IsBoth}
+use Rattle.qpu_line.specs.Named.{IsNamedPart, IsAddPart, IsMulPart, IsNamed}
 use Rattle.qpu_asm.specs.declared.piece.Piece.{Piece}
 use Rattle.qpu_asm.specs.declared.part.UnitPart.{UnitPart}
 use Rattle.qpu_asm.specs.declared.part.Part.{Part}
-use Rattle.qpu_asm.specs.declared.part.Part.TheVariants as part
-use Rattle.qpu_asm.specs.declared.mark.What.TheVariants as what
-use Rattle.qpu_asm.specs.declared.mark.Mark.{Mark}
 use Rattle.qpu_asm.specs.Roles.{source_of, op_in_add, op_in_mul}
-use Rattle.qpu_asm.specs.Pieces.{bare}
-use Rattle.qpu_asm.specs.Marks.{mark, other_a, other_b, rotation_marks, unit_marks, part_marks, marks_of}
-use Rattle.qpu_asm.specs.Judging.{cross, line_fault}
-use Rattle.qpu_asm.specs.Meanings.{unit_of, unit_in, mul_in, unit_does, unit_sets, sets_in, signal_in, signal_part, rotation_of, address_a, address_b, reads_by, address_of_source, other_a_part, other_b_part, first_told, unless, units_of_parts, meaning}
-use Rattle.qpu_asm.proofs.AgainUnits.{SaysUnit}
+use Rattle.qpu_asm.specs.Meanings.{mul_in, unit_does, unit_sets, signal_in, address_a, address_b, reads_by, address_of_source, other_a_part, other_b_part, first_told, unless, units_of_parts, meaning}
 use Rattle.qpu_asm.proofs.AgainOperands.{source_a_is, source_b_is}
-use Rattle.qpu_asm.proofs.AgainMarks.{Given, NoTarget, Only, AnyTarget, Clean, clean_start, clean_mark, clean_first, clean_second, no_fault}
 use Rattle.qpu_asm.proofs.AgainSources.{sets_back}
-use Rattle.qpu_asm.proofs.AgainHeld.{no_cross, is_rotation, is_plain_signal, rotation_held, signal_held, given_of, holds_of, other_held, reads_a, reads_b, both_false}
-use Rattle.qpu_asm.proofs.AgainUnitParts.{unit_clean, unit_back}
-use Rattle.qpu_asm.proofs.AgainBoth.{SaysActive, head_part, unit_parts, Told, silent, signals, turned, told_parts, SaysRotation, SaysSignal, SaysOther, a_parts, b_parts}
+use Rattle.qpu_asm.proofs.AgainHeld.{other_held, reads_a, reads_b, both_false}
+use Rattle.qpu_asm.proofs.AgainUnitParts.{unit_back}
+use Rattle.qpu_asm.proofs.AgainBoth.{SaysActive, head_part, unit_parts, Told, silent, signals, turned, told_parts, SaysSignal, SaysOther, a_parts, b_parts}
 
 -- the parts behind the first
 abbrev pub later_parts : Option UnitPart → Told → Option Piece → Option Piece → List Part
@@ -119,9 +105,6 @@ b_told o m g a b h = b_behind m g (a_parts a ++ b_parts b) ∙ (b_last a b ∙ b
 
 -- what the units do
 
-abbrev IsNamedActive : Option UnitDoes → Type 0
-IsNamedActive o = IfSome o IsNamedPart
-
 code_by : (o : Option ℕ) (n : ℕ) → o ≡ Some n → unwrap_or o 0 ≡ n
 code_by o n e = rw e refl
 
@@ -151,9 +134,6 @@ unless_by false None none = refl
 
 reads_none : (x y : Bool) → x ≡ false → y ≡ false → (x || y) ≡ false
 reads_none x y e f = rw (e, f) refl
-
-add_held : (u : Units) → IsBoth u → IfSome u.add (IsPart (fields_of_units u) ((fields_of_units u).ws == 1))
-add_held u is = is.add
 
 a_alone : (u : Units) → IsBoth u → (n : ℕ) → u.other_a ≡ Some n → (reads_by address_a u.add || reads_by address_a u.mul) ≡ false
 unfolding fields_of_units

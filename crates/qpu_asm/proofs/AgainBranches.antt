@@ -1,9 +1,8 @@
 -- The line of a branch is read.
-use Rattle.std.proofs.Common.{◌≡◌, ℕ, ◌+◌, ◌-◌, ◌<◌, ◌≤◌, Bool, true, false, List, [], ◌∷◌, ◌++◌, append_assoc, refl, sym, ap, ◌∙◌, subst, arith}
-use Rattle.std.proofs.lemmas.List.{append-nil}
+use Rattle.std.proofs.Common.{◌≡◌, ℕ, ◌<◌, ◌≤◌, Bool, true, false, List, [], ◌∷◌, ◌++◌, append_assoc, refl, sym, ap, ◌∙◌, subst, arith}
 use Rattle.std.proofs.lemmas.List.Sums.{fold-append}
 use Rattle.std.proofs.lemmas.Bool.Decides.{nat_tests}
-use Rattle.std.specs.Prelude.{◌==◌, ◌&&◌, ◌||◌, not, nat_lt, fold, Option, Some, None, IfSome, unwrap_or, Result, Ok, Err, if◌then◌else◌}
+use Rattle.std.specs.Prelude.{nat_lt, fold, Option, Some, None, Ok, if◌then◌else◌}
 use Rattle.std.specs.Option.{option_or}
 use Rattle.qpu_token.specs.declared.token.Token.{Token}
 use Rattle.qpu_word.specs.declared.name.Place.{Place}
@@ -18,7 +17,7 @@ use Rattle.qpu_line.specs.declared.name.Register.TheVariants as register
 use Rattle.qpu_line.specs.declared.symbol.Symbol.{Symbol}
 use Rattle.qpu_line.specs.declared.symbol.Symbol.TheVariants as symbol
 use Rattle.qpu_line.specs.Lines.{Bit, Word, Number, Figure, Hexadecimal, Comma, Space, worth, signed_figure, symbols_of, behind, and_then, suffix, target_bits, branch_condition_bits, is_nowhere, link_bits, row_bits, branch_bits}
-use Rattle.qpu_line.specs.Worded.{IsBranch, IsTarget, is_exchanged_branch}
+use Rattle.qpu_line.specs.Worded.{IsBranch, is_exchanged_branch}
 use Rattle.qpu_asm.specs.declared.placed.Placed.{Placed}
 use Rattle.qpu_asm.specs.declared.piece.Core.{Core}
 use Rattle.qpu_asm.specs.declared.piece.Core.TheVariants as core
@@ -30,21 +29,20 @@ use Rattle.qpu_asm.specs.declared.part.Part.TheVariants as part
 use Rattle.qpu_asm.specs.declared.line.Line.TheVariants.{Says}
 use Rattle.qpu_asm.specs.declared.mark.What.TheVariants as what
 use Rattle.qpu_asm.specs.declared.mark.Mark.{Mark}
-use Rattle.qpu_asm.specs.Reading.{go_on, ended}
 use Rattle.qpu_asm.specs.Pieces.{bare, suffix_at, comma_at, target_core, jump_core}
 use Rattle.qpu_asm.specs.Parts.{branch_part, last_name, part_by}
-use Rattle.qpu_asm.specs.Orders.{begins, branch_follows, follows, is_name}
+use Rattle.qpu_asm.specs.Orders.{begins, follows}
 use Rattle.qpu_asm.specs.Roles.{is_mnemonic}
 use Rattle.qpu_asm.specs.SectionTokens.{SectionTokens}
-use Rattle.qpu_asm.specs.Marks.{mark, mark_if, target_place, somewhere, if_link, place_mark, branch_marks, jump_marks, jumping_marks, is_row_name, part_marks, marks_of}
+use Rattle.qpu_asm.specs.Marks.{mark, target_place, somewhere, if_link, place_mark, branch_marks, jump_marks, jumping_marks, part_marks, marks_of}
 use Rattle.qpu_asm.specs.Judging.{cross, line_fault}
-use Rattle.qpu_asm.specs.Meanings.{place_of, nowhere, branch_condition_in, distance, row_of, row_part, first_told, link_in, branch_of_part, meaning}
+use Rattle.qpu_asm.specs.Meanings.{place_of, branch_condition_in, distance, row_of, row_part, first_told, link_in, branch_of_part, meaning}
 use Rattle.qpu_asm.specs.LinesRead.{read_line}
 use Rattle.qpu_asm.proofs.AgainSpelled.{Spelled, symbols_append}
-use Rattle.qpu_asm.proofs.AgainPieces.{Stops, NoDot, ends_stops, maybe_suffix, Suffixed, suffix_read, SaysCore, target_core_read, target_no_dot, jump_number}
+use Rattle.qpu_asm.proofs.AgainPieces.{place_by, ends_stops, maybe_suffix, Suffixed, suffix_read, SaysCore, target_core_read, target_no_dot, jump_number}
 use Rattle.qpu_asm.proofs.AgainUnits.{comma_ends, comma_read, nothing_ends}
-use Rattle.qpu_asm.proofs.AgainSections.{Plain, bits_plain, AllPlain, AllBegin, tails, tails_append, AreSections, Reads, IsLine, line_read}
-use Rattle.qpu_asm.proofs.AgainMarks.{Given, NoTarget, Only, AnyTarget, Clean, clean_start, clean_first, clean_second, no_fault}
+use Rattle.qpu_asm.proofs.AgainSections.{Plain, bits_plain, AllPlain, AllBegin, tails, tails_append, AreSections, Reads, line_read}
+use Rattle.qpu_asm.proofs.AgainMarks.{Given, nothing_given, marks_are, NoTarget, Only, AnyTarget, Clean, clean_start, clean_first, clean_second, no_fault}
 use Rattle.qpu_asm.proofs.AgainHeld.{no_cross}
 use Rattle.qpu_asm.proofs.AgainPlain.{suffix_plain, target_plain}
 use Rattle.qpu_asm.proofs.AgainForms.{due_first, due_behind, are_append, reads_append, plain_both, begin_both, one_section, no_section, behind_symbols, last_target, last_source}
@@ -208,9 +206,6 @@ condition_by : (cond : ℕ) (low : Bool) (s : Option Suffix) → nat_lt cond 12 
 condition_by cond true s e near known h = rw h.1 refl
 condition_by cond false s e near known h = let is : 15 ≡ cond = grind (arith, nat_tests, e, known) in rw h is
 
-place_by : (o : Option Place) (to other : Place) → o ≡ Some to → unwrap_or o other ≡ to
-place_by o to other e = rw e refl
-
 nowhere_is : (to : Place) → is_nowhere to ≡ true → to ≡ Both 39
 nowhere_is (Both n) e = let is : n ≡ 39 = grind (arith, nat_tests, e) in ap (λ (z : ℕ). Both z) is
 nowhere_is (InA n) e = absurd cc
@@ -256,9 +251,6 @@ branch_says at b v l t is says link row =
 
 -- no fault
 
-dummy : Given
-dummy = record { small = false; a = 0; unpack = 0; b = 0; adds = false; turns = false }
-
 jump_marked : (p : Piece) (n : ℕ) (ms : List Mark) → p.core ≡ core.Number n → jump_marks p ms ≡ ms
 jump_marked p n ms e = rw e refl
 
@@ -300,20 +292,16 @@ row_marked None t ms = refl
 row_marked (Some row) None ms = refl
 row_marked (Some row) (Some t) ms = refl
 
-marks_are : (f : Part) (later : List Part) → marks_of (f ∷ later) ≡ fold (part_marks true) (part_marks false [] f) later
-unfolding marks_of
-marks_are f later = refl
-
 branch_clean : (b : Branch) (v : BranchPart) (l : Option Piece) (t : Option Token) → IsBranch b → SaysBranch b v → SaysLink (is_nowhere b.mul) b.mul l
     → line_fault (marks_of (part.Branch v ∷ (link_parts l ++ row_parts b.register t))) ≡ None
 branch_clean b v l t is says link =
     let apart : cross b.add b.mul ≡ false = no_cross (is_exchanged_branch b) b.add b.mul is.add_to is.mul_to in
     let start : List Mark = part_marks false [] (part.Branch v) in
-    let c = second_clean dummy b.add b.mul (is_nowhere b.mul) l start refl is.mul link apart (first_clean dummy b v is.add says) in
+    let c = second_clean nothing_given b.add b.mul (is_nowhere b.mul) l start refl is.mul link apart (first_clean nothing_given b v is.add says) in
     let same : marks_of (part.Branch v ∷ (link_parts l ++ row_parts b.register t)) ≡ fold (part_marks true) start (link_parts l) =
     marks_are (part.Branch v) (link_parts l ++ row_parts b.register t)
     ∙ (fold-append (part_marks true) start (link_parts l) (row_parts b.register t) ∙ row_marked b.register t (fold (part_marks true) start (link_parts l))) in
-    rw same (no_fault c.0 dummy _ c.1)
+    rw same (no_fault c.0 nothing_given _ c.1)
 
 -- its line
 

@@ -1,28 +1,26 @@
 -- Lines of one section and of some that follow; the last piece of a section.
-use Rattle.std.proofs.Common.{◌≡◌, ℕ, ◌<◌, Bool, true, false, List, [], ◌∷◌, ◌++◌, append_assoc, refl, sym, ap, ◌∙◌, subst, arith}
+use Rattle.std.proofs.Common.{◌≡◌, ℕ, ◌<◌, true, List, [], ◌∷◌, ◌++◌, append_assoc, refl, sym, ap, ◌∙◌}
 use Rattle.std.proofs.lemmas.List.{append-nil}
-use Rattle.std.specs.Prelude.{Option, Some, None, Result, Ok, Err, if◌then◌else◌}
+use Rattle.std.specs.Prelude.{Ok}
 use Rattle.qpu_token.specs.declared.token.Token.{Token}
 use Rattle.qpu_word.specs.declared.name.Place.{Place}
 use Rattle.qpu_line.specs.declared.name.Name.{Name}
 use Rattle.qpu_line.specs.declared.symbol.Symbol.{Symbol}
 use Rattle.qpu_line.specs.declared.symbol.Symbol.TheVariants as symbol
-use Rattle.qpu_line.specs.Lines.{Bit, Word, Space, symbols_of, behind, target_bits}
+use Rattle.qpu_line.specs.Lines.{Bit, symbols_of, behind, target_bits}
 use Rattle.qpu_asm.specs.declared.placed.Placed.{Placed}
 use Rattle.qpu_asm.specs.declared.piece.Core.{Core}
 use Rattle.qpu_asm.specs.declared.piece.Core.TheVariants as core
 use Rattle.qpu_asm.specs.declared.piece.Piece.{Piece}
 use Rattle.qpu_asm.specs.declared.part.Part.{Part}
-use Rattle.qpu_asm.specs.Reading.{go_on, ended}
 use Rattle.qpu_asm.specs.Pieces.{bare, value_core, target_core}
 use Rattle.qpu_asm.specs.Parts.{last_value, last_name, part_by}
 use Rattle.qpu_asm.specs.Orders.{begins, follows, due}
 use Rattle.qpu_asm.specs.SectionTokens.{SectionTokens}
-use Rattle.qpu_asm.specs.Sections.{part_after}
 use Rattle.qpu_asm.proofs.AgainSpelled.{Spelled}
 use Rattle.qpu_asm.proofs.AgainPieces.{Stops, ends_stops, value_name, value_number, SaysCore, target_name, target_core_read}
 use Rattle.qpu_asm.proofs.AgainUnits.{nothing_ends}
-use Rattle.qpu_asm.proofs.AgainSections.{Plain, AllPlain, AllBegin, tails, AreSections, Reads, section_after}
+use Rattle.qpu_asm.proofs.AgainSections.{AllPlain, AllBegin, tails, AreSections, Reads, section_after}
 
 pub due_first : (n : Name) → begins n ≡ true → due [] n ≡ true
 unfolding due

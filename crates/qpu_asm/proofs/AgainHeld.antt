@@ -1,7 +1,7 @@
 -- What the word of an instruction of both units holds agrees with what its line names.
-use Rattle.std.proofs.Common.{◌≡◌, ℕ, ◌<◌, Bool, true, false, List, [], ◌∷◌, refl, sym, ap, ◌∙◌, subst, arith}
+use Rattle.std.proofs.Common.{◌≡◌, ℕ, Bool, true, false, refl, sym, ap, ◌∙◌, arith}
 use Rattle.std.proofs.lemmas.Bool.Decides.{nat_tests}
-use Rattle.std.specs.Prelude.{◌==◌, ◌&&◌, ◌||◌, not, nat_lt, nat_le, Option, Some, None, is_some, IfSome, IsSomeAnd, if◌then◌else◌}
+use Rattle.std.specs.Prelude.{◌==◌, ◌&&◌, ◌||◌, not, nat_lt, nat_le, Option, Some, None, is_some, IfSome, if◌then◌else◌}
 use Rattle.qpu_word.specs.declared.name.Place.{Place}
 use Rattle.qpu_word.specs.declared.name.Place.TheVariants.{Both, FileA as InA, FileB as InB}
 use Rattle.qpu_word.specs.Canonical.{file_matters}
@@ -10,13 +10,12 @@ use Rattle.qpu_line.specs.declared.operand.Operand.TheVariants.{Accumulator, Fil
 use Rattle.qpu_line.specs.declared.part.Part.{Part as UnitDoes}
 use Rattle.qpu_line.specs.declared.units.Signal.{Signal}
 use Rattle.qpu_line.specs.declared.units.Signal.TheVariants.{Nothing, End, Load0, Load1, Rotate}
-use Rattle.qpu_line.specs.declared.units.Units.{Units}
 use Rattle.qpu_line.specs.declared.slots.UnitFields.{UnitFields}
 use Rattle.qpu_line.specs.Targets.{target_of, address_of, in_file_a, in_file_b}
-use Rattle.qpu_line.specs.Units.{fields_of_units, part_uses, any_uses, signal_of, other_read, op_of, cond_of, first_of, second_of, mux_of}
+use Rattle.qpu_line.specs.Units.{part_uses, signal_of, other_read, op_of, cond_of, first_of, second_of, mux_of}
 use Rattle.qpu_line.specs.Worded.{IsTarget}
-use Rattle.qpu_line.specs.Both.{IsOperand, IsPart, IsHeld, IsBoth}
-use Rattle.qpu_line.specs.Named.{IsNamedOperand, IsNamedPart, IsNamedSignal, is_turned, CanTurn}
+use Rattle.qpu_line.specs.Both.{IsOperand, IsPart}
+use Rattle.qpu_line.specs.Named.{IsNamedOperand, is_turned}
 use Rattle.qpu_asm.specs.Judging.{cross}
 use Rattle.qpu_asm.specs.Meanings.{address_a, address_b, reads_by}
 use Rattle.qpu_asm.proofs.AgainMarks.{Given}

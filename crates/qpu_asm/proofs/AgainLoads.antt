@@ -2,12 +2,11 @@
 use Rattle.std.proofs.Common.{◌≡◌, ℕ, ◌<◌, Bool, true, false, List, [], ◌∷◌, ◌++◌, append_assoc, refl, sym, ap, ◌∙◌, subst, arith}
 use Rattle.std.proofs.lemmas.List.{append-nil}
 use Rattle.std.proofs.lemmas.Bool.Decides.{nat_tests}
-use Rattle.std.specs.Prelude.{◌==◌, ◌&&◌, not, nat_lt, Option, Some, None, IfSome, unwrap_or, Result, Ok, Err, if◌then◌else◌}
+use Rattle.std.specs.Prelude.{◌==◌, nat_lt, fold, Option, Some, None, IfSome, Ok, if◌then◌else◌}
 use Rattle.qpu_token.specs.declared.token.Token.{Token}
 use Rattle.qpu_word.specs.declared.name.Place.{Place}
 use Rattle.qpu_word.specs.declared.name.Place.TheVariants.{Both}
 use Rattle.qpu_word.specs.Words.{between}
-use Rattle.qpu_line.specs.Targets.{address_of}
 use Rattle.qpu_line.specs.Loads.{write_target}
 use Rattle.qpu_line.specs.declared.instruction.Instruction.TheVariants as instruction
 use Rattle.qpu_line.specs.declared.load.Load.{Load}
@@ -18,7 +17,7 @@ use Rattle.qpu_line.specs.declared.name.Name.TheVariants as name
 use Rattle.qpu_line.specs.declared.symbol.Symbol.{Symbol}
 use Rattle.qpu_line.specs.declared.symbol.Symbol.TheVariants as symbol
 use Rattle.qpu_line.specs.Lines.{Bit, Word, Number, Hexadecimal, Comma, Space, symbols_of, behind, and_then, target_bits, condition_bits, flags_bits, write_bits, also_bits, load_bits}
-use Rattle.qpu_line.specs.Worded.{IsWrite, IsLoad, IsTarget, is_exchanged_load}
+use Rattle.qpu_line.specs.Worded.{IsWrite, IsLoad, is_exchanged_load}
 use Rattle.qpu_asm.specs.declared.placed.Placed.{Placed}
 use Rattle.qpu_asm.specs.declared.piece.Core.{Core}
 use Rattle.qpu_asm.specs.declared.piece.Core.TheVariants as core
@@ -32,7 +31,6 @@ use Rattle.qpu_asm.specs.declared.part.Part.TheVariants as part
 use Rattle.qpu_asm.specs.declared.line.Line.TheVariants.{Says}
 use Rattle.qpu_asm.specs.declared.mark.What.TheVariants as what
 use Rattle.qpu_asm.specs.declared.mark.Mark.{Mark}
-use Rattle.qpu_asm.specs.Reading.{go_on, ended}
 use Rattle.qpu_asm.specs.Pieces.{bare, suffix_at, comma_at, target_core, value_core}
 use Rattle.qpu_asm.specs.Parts.{suffixes_at, load_part, also_part, part_by}
 use Rattle.qpu_asm.specs.SectionTokens.{SectionTokens}
@@ -41,10 +39,10 @@ use Rattle.qpu_asm.specs.Judging.{cross, line_fault}
 use Rattle.qpu_asm.specs.Meanings.{place_of, is_nowhere, number_of, condition_in, sets_in, write_in, also_in, load_of_part, meaning}
 use Rattle.qpu_asm.specs.LinesRead.{read_line}
 use Rattle.qpu_asm.proofs.AgainSpelled.{Spelled, symbols_append}
-use Rattle.qpu_asm.proofs.AgainPieces.{Stops, NoDot, ends_stops, maybe_suffix, Suffixed, suffix_read, SaysSuffixes, suffixes_read, SaysCore, target_core_read, target_no_dot, value_number}
+use Rattle.qpu_asm.proofs.AgainPieces.{place_by, NoDot, ends_stops, maybe_suffix, Suffixed, suffix_read, SaysSuffixes, suffixes_read, SaysCore, target_core_read, target_no_dot, value_number}
 use Rattle.qpu_asm.proofs.AgainUnits.{condition_suffix, condition_is, comma_ends, comma_read, nothing_ends}
-use Rattle.qpu_asm.proofs.AgainSections.{Plain, bits_plain, AllPlain, AllBegin, tails, AreSections, Reads, IsLine, line_read}
-use Rattle.qpu_asm.proofs.AgainMarks.{Given, NoTarget, Only, AnyTarget, Clean, clean_start, clean_first, clean_second, no_fault}
+use Rattle.qpu_asm.proofs.AgainSections.{Plain, bits_plain, AllPlain, AllBegin, tails, AreSections, Reads, line_read}
+use Rattle.qpu_asm.proofs.AgainMarks.{Given, nothing_given, marks_are, NoTarget, Only, AnyTarget, Clean, clean_start, clean_first, clean_second, no_fault}
 use Rattle.qpu_asm.proofs.AgainSources.{suffixes_clean, condition_back, sets_back}
 use Rattle.qpu_asm.proofs.AgainHeld.{no_cross}
 use Rattle.qpu_asm.proofs.AgainPlain.{suffix_plain, flags_plain, target_plain}
@@ -167,9 +165,6 @@ single_back cond s named h = single_by cond (nat_lt cond 2) s refl named h
 cond_named : (w : Write) → IsWrite w → between 1 w.cond 7 ≡ true
 cond_named w is = let some : (w.cond == 0) ≡ false = is.some in let near : w.cond < 8 = is.cond in grind (arith, nat_tests, some)
 
-place_by : (o : Option Place) (to other : Place) → o ≡ Some to → unwrap_or o other ≡ to
-place_by o to other e = rw e refl
-
 write_some : (w : Write) (to : Place) (s : Option Suffix) → to ≡ w.to → IsWrite w → condition_in s ≡ w.cond → write_in to s ≡ Some w
 write_some w to s e is f = let nowhere : is_nowhere to ≡ false = ap is_nowhere e ∙ is.somewhere in rw (nowhere, f, e) refl
 
@@ -198,9 +193,6 @@ load_says at l v a is says also =
 
 -- no fault
 
-dummy : Given
-dummy = record { small = false; a = 0; unpack = 0; b = 0; adds = false; turns = false }
-
 value_marks : (p : Piece) (n : ℕ) (ms : List Mark) → p.core ≡ core.Number n → any_number p ms ≡ ms
 value_marks p n ms e = rw e refl
 
@@ -223,7 +215,7 @@ not_nowhere : (w : Write) → IsWrite w → w.to ≡ Both 39 → ⊥
 not_nowhere w is e = let no : true ≡ false = sym (ap is_nowhere e) ∙ is.somewhere in cc
 
 second_clean : (g : Given) (p : Place) (o : Option Write) (a : Option AlsoPart) (ms : List Mark) → IfSome o IsWrite → SaysAlso o a → cross p (write_target o) ≡ false
-    → Clean (Only p) g ms → (W : Place → Type 0) × Clean W g (Rattle.std.specs.Prelude.fold (part_marks true) ms (also_parts a))
+    → Clean (Only p) g ms → (W : Place → Type 0) × Clean W g (fold (part_marks true) ms (also_parts a))
 unfolding part_marks also_marks
 second_clean g p None a ms is h apart c = (Only p, rw h c)
 second_clean g p (Some w) a ms is h apart c =
@@ -232,15 +224,11 @@ second_clean g p (Some w) a ms is h apart c =
     let written = clean_second (Only p) g w.to h.0.to.token ms (λ q e. subst (λ (z : Place). cross z w.to ≡ false) (sym e) apart) c in
     (AnyTarget, rw (h.1, same, place_marked (somewhere h.0.to.core) w.to h.0.to.token ms there) written)
 
-marks_are : (f : Part) (later : List Part) → marks_of (f ∷ later) ≡ Rattle.std.specs.Prelude.fold (part_marks true) (part_marks false [] f) later
-unfolding marks_of
-marks_are f later = refl
-
 load_clean : (l : Load) (v : LoadPart) (a : Option AlsoPart) → IsLoad l → SaysLoad l v → SaysAlso l.mul a → line_fault (marks_of (part.Load v ∷ also_parts a)) ≡ None
 load_clean l v a is says also =
     let apart : cross (write_target l.add) (write_target l.mul) ≡ false = no_cross (is_exchanged_load l) (write_target l.add) (write_target l.mul) is.add_to is.mul_to in
-    let c = second_clean dummy (write_target l.add) l.mul a (part_marks false [] (part.Load v)) is.mul also apart (first_clean dummy l v says) in
-    rw (marks_are (part.Load v) (also_parts a)) (no_fault c.0 dummy _ c.1)
+    let c = second_clean nothing_given (write_target l.add) l.mul a (part_marks false [] (part.Load v)) is.mul also apart (first_clean nothing_given l v says) in
+    rw (marks_are (part.Load v) (also_parts a)) (no_fault c.0 nothing_given _ c.1)
 
 -- its line
 

@@ -1,19 +1,20 @@
 -- Marks that fit together: none is faulty by itself or beside an earlier one.
-use Rattle.std.proofs.Common.{◌≡◌, ℕ, Bool, true, false, List, [], ◌∷◌, ◌++◌, append_assoc, refl, sym, ap, ◌∙◌, subst, arith}
+use Rattle.std.proofs.Common.{◌≡◌, ℕ, Bool, true, false, List, [], ◌∷◌, ◌++◌, append_assoc, refl, sym, ◌∙◌, subst, arith}
 use Rattle.std.proofs.lemmas.List.{append-nil}
 use Rattle.std.proofs.lemmas.Bool.Decides.{nat_tests}
-use Rattle.std.specs.Prelude.{◌==◌, ◌&&◌, ◌||◌, not, Option, Some, None, option_map, if◌then◌else◌}
+use Rattle.std.specs.Prelude.{◌==◌, ◌&&◌, not, fold, Option, Some, None, if◌then◌else◌}
 use Rattle.std.specs.List.{list_any}
 use Rattle.qpu_token.specs.declared.token.Token.{Token}
 use Rattle.qpu_word.specs.declared.name.Place.{Place}
 use Rattle.qpu_word.specs.Operands.{small_value}
+use Rattle.qpu_asm.specs.declared.part.Part.{Part}
 use Rattle.qpu_asm.specs.declared.mark.What.{What}
 use Rattle.qpu_asm.specs.declared.mark.What.TheVariants as what
 use Rattle.qpu_asm.specs.declared.mark.Mark.{Mark}
 use Rattle.qpu_asm.specs.declared.judge.Judged.{Judged}
 use Rattle.qpu_asm.specs.declared.judge.Judged.TheVariants.{Operands, TwoImmediates, TwoReads, Label, Range}
-use Rattle.qpu_asm.specs.Judging.{is_wrong, cross, not_beside, other_immediate, other_read, clashes, is_faulty, first_faulty, fault_of_kind, fault_at, kind_of, line_fault}
-use Rattle.qpu_asm.specs.Marks.{mark, mark_if}
+use Rattle.qpu_asm.specs.Judging.{is_wrong, cross, not_beside, other_immediate, other_read, clashes, is_faulty, first_faulty, fault_of_kind, line_fault}
+use Rattle.qpu_asm.specs.Marks.{mark, mark_if, part_marks, marks_of}
 
 -- what a line's word holds
 pub record Given : Type 0 where
@@ -23,6 +24,10 @@ pub record Given : Type 0 where
   pub b : ℕ
   pub adds : Bool
   pub turns : Bool
+
+-- a word of which nothing is asked
+abbrev pub nothing_given : Given
+nothing_given = record { small = false; a = 0; unpack = 0; b = 0; adds = false; turns = false }
 
 -- a mark agrees with what the word holds, and a target with some rule
 abbrev pub Fits : (Place → Type 0) → Given → What → Type 0
@@ -185,3 +190,8 @@ pub no_fault : (W : Place → Type 0) (g : Given) (ms : List Mark) → Clean W g
 unfolding line_fault
 no_fault W g ms c =
     rw (kind_none ms Operands (c.none Operands), kind_none ms TwoImmediates (c.none TwoImmediates), kind_none ms TwoReads (c.none TwoReads), kind_none ms Label (c.none Label), kind_none ms Range (c.none Range)) refl
+
+-- the marks of the first part and those behind them
+pub marks_are : (f : Part) (later : List Part) → marks_of (f ∷ later) ≡ fold (part_marks true) (part_marks false [] f) later
+unfolding marks_of
+marks_are f later = refl

@@ -1,7 +1,7 @@
 -- The operands of a canonical line are read.
-use Rattle.std.proofs.Common.{◌≡◌, ℕ, ◌+◌, ◌-◌, ◌*◌, ◌<◌, ◌≤◌, Bool, true, false, List, [], ◌∷◌, ◌++◌, refl, sym, ap, ◌∙◌, subst, arith}
+use Rattle.std.proofs.Common.{◌≡◌, ℕ, ◌<◌, ◌≤◌, Bool, true, false, List, [], ◌∷◌, ◌++◌, refl, ap, ◌∙◌, arith}
 use Rattle.std.proofs.lemmas.Bool.Decides.{nat_tests}
-use Rattle.std.specs.Prelude.{◌==◌, ◌%◌, ◌^◌, not, nat_lt, nat_le, Option, Some, None, Result, Ok, Err, if◌then◌else◌}
+use Rattle.std.specs.Prelude.{◌==◌, nat_lt, Option, Some, None, Ok, if◌then◌else◌}
 use Rattle.qpu_token.specs.declared.token.Token.{Token}
 use Rattle.qpu_word.specs.declared.name.Place.TheVariants as place
 use Rattle.qpu_word.specs.Operands.{small_value}
@@ -11,7 +11,7 @@ use Rattle.qpu_line.specs.declared.name.Name.{Name}
 use Rattle.qpu_line.specs.declared.name.Name.TheVariants as name
 use Rattle.qpu_line.specs.declared.name.Register.TheVariants as register
 use Rattle.qpu_line.specs.declared.symbol.Symbol.TheVariants as symbol
-use Rattle.qpu_line.specs.Lines.{Bit, Word, Number, Comma, Dot, Figure, worth, small_figure, source_a, source_b, symbols_of, suffix, unpack_bits, operand_bits}
+use Rattle.qpu_line.specs.Lines.{Bit, worth, small_figure, source_a, source_b, symbols_of, suffix, unpack_bits, operand_bits}
 use Rattle.qpu_line.specs.Named.{IsNamedOperand}
 use Rattle.qpu_asm.specs.declared.placed.Placed.{Placed}
 use Rattle.qpu_asm.specs.declared.piece.Core.TheVariants as core

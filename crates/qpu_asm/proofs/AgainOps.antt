@@ -1,19 +1,17 @@
 -- The codes of operations, and the names that are written for them.
-use Rattle.std.proofs.Common.{◌≡◌, ℕ, Bool, true, false, List, refl, sym, ap, ◌∙◌, arith}
+use Rattle.std.proofs.Common.{◌≡◌, ℕ, Bool, true, false, List, refl, sym, ap, arith}
 use Rattle.std.proofs.lemmas.Bool.Decides.{nat_tests}
-use Rattle.std.specs.Prelude.{◌==◌, Option, Some, None, IsSome, Result}
+use Rattle.std.specs.Prelude.{◌==◌, Some, IsSome}
 use Rattle.qpu_token.specs.declared.token.Token.{Token}
 use Rattle.qpu_word.specs.declared.operation.AddOp.{AddOp}
 use Rattle.qpu_word.specs.declared.operation.AddOp.TheVariants as add
-use Rattle.qpu_word.specs.declared.operation.MulOp.{MulOp}
 use Rattle.qpu_word.specs.declared.operation.MulOp.TheVariants as mul
 use Rattle.qpu_word.specs.Operations.{add_op, mul_op}
 use Rattle.qpu_word.specs.Words.{is_unary}
 use Rattle.qpu_line.specs.declared.name.Name.{Name}
 use Rattle.qpu_line.specs.declared.name.Name.TheVariants as name
-use Rattle.qpu_line.specs.Lines.{add_name, mul_name}
+use Rattle.qpu_line.specs.Lines.{mul_name}
 use Rattle.qpu_asm.specs.declared.placed.Placed.{Placed}
-use Rattle.qpu_asm.specs.declared.part.Part.{Part}
 use Rattle.qpu_asm.specs.Parts.{part_by, unit_part}
 use Rattle.qpu_asm.specs.Roles.{add_code, op_in_mul, takes_one, is_mnemonic}
 

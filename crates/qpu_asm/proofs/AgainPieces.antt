@@ -1,32 +1,30 @@
 -- The pieces of a canonical line are read: targets and operands, with what follows them.
-use Rattle.std.proofs.Common.{◌≡◌, ℕ, ◌+◌, ◌-◌, ◌<◌, ◌≤◌, Bool, true, false, List, [], ◌∷◌, ◌++◌, ◌⊎◌, inl, inr, refl, sym, ap, ◌∙◌, subst, map, arith}
+use Rattle.std.proofs.Common.{◌≡◌, ℕ, ◌+◌, ◌-◌, ◌<◌, ◌≤◌, Bool, true, false, List, [], ◌∷◌, ◌++◌, ◌⊎◌, inl, inr, refl, sym, ◌∙◌, subst, map, arith}
 use Rattle.std.proofs.lemmas.Bool.Decides.{nat_tests}
-use Rattle.std.specs.Prelude.{◌==◌, ◌&&◌, ◌||◌, ◌%◌, ◌^◌, not, nat_lt, nat_le, Option, Some, None, Result, Ok, Err, if◌then◌else◌}
+use Rattle.std.specs.Prelude.{◌==◌, ◌&&◌, ◌||◌, ◌%◌, nat_lt, nat_le, Option, Some, None, unwrap_or, Ok, if◌then◌else◌}
 use Rattle.qpu_token.specs.declared.token.Token.{Token}
 use Rattle.qpu_word.specs.declared.name.Place.{Place}
 use Rattle.qpu_word.specs.declared.name.Place.TheVariants.{Both, FileA, FileB}
-use Rattle.qpu_line.specs.declared.operand.Operand.{Operand}
-use Rattle.qpu_line.specs.declared.operand.Operand.TheVariants as operand
 use Rattle.qpu_line.specs.declared.name.Name.{Name}
 use Rattle.qpu_line.specs.declared.name.Name.TheVariants as name
 use Rattle.qpu_line.specs.declared.name.Register.TheVariants as register
 use Rattle.qpu_line.specs.declared.symbol.Symbol.{Symbol}
 use Rattle.qpu_line.specs.declared.symbol.Symbol.TheVariants as symbol
-use Rattle.qpu_line.specs.Lines.{Bit, Word, Number, Comma, Semicolon, Dot, Dash, Space, symbols_of, target_bits, suffix, condition_bits, branch_condition_bits, flags_bits, pack_bits, unpack_bits}
+use Rattle.qpu_line.specs.Lines.{Bit, Word, Dash, symbols_of, target_bits, suffix, flags_bits}
 use Rattle.qpu_asm.specs.declared.placed.Placed.{Placed}
 use Rattle.qpu_asm.specs.declared.piece.Core.{Core}
 use Rattle.qpu_asm.specs.declared.piece.Core.TheVariants as core
 use Rattle.qpu_asm.specs.declared.piece.Suffix.{Suffix}
 use Rattle.qpu_asm.specs.declared.piece.Piece.{Piece}
 use Rattle.qpu_asm.specs.declared.part.Suffixes.{Suffixes}
-use Rattle.qpu_asm.specs.Reading.{Read, go_on}
+use Rattle.qpu_asm.specs.Reading.{Read}
 use Rattle.qpu_asm.specs.Expressions.{length_from, expression_length}
-use Rattle.qpu_asm.specs.declared.expression.Due.TheVariants.{Value, Sign}
-use Rattle.qpu_asm.specs.Pieces.{is_minus, is_dot, is_comma, is_colon, stops, name_alone, alone, bare, length_of, target_of_length, value_of_length, target_core, value_core, jump_core, suffix_at, suffix_behind, suffix_of, target_at, operand_at, comma_at}
+use Rattle.qpu_asm.specs.declared.expression.Due.TheVariants.{Sign}
+use Rattle.qpu_asm.specs.Pieces.{named, is_minus, is_dot, is_comma, is_colon, stops, name_alone, alone, bare, length_of, target_of_length, value_of_length, target_core, value_core, jump_core, suffix_at, suffix_behind, suffix_of, target_at, operand_at}
 use Rattle.qpu_asm.specs.Parts.{suffixes_at}
 use Rattle.qpu_asm.specs.Roles.{target_of}
 use Rattle.qpu_asm.specs.Marks.{target_place, somewhere}
-use Rattle.qpu_asm.proofs.AgainSpelled.{Spelled, as_symbol, token_is}
+use Rattle.qpu_asm.proofs.AgainSpelled.{Spelled}
 
 -- what stands behind a piece
 
@@ -149,7 +147,7 @@ abbrev pub suffixed : Token → Name → Option Suffix
 suffixed dot n = Some (record { dot = dot; name = Some n })
 
 suffix_step : (x y : Placed) (rest : List Placed) (s t : Symbol) (n : Name) → s ≡ symbol.Dot → t ≡ symbol.Name n
-    → (if is_dot s then suffix_of x.token y.token rest (Rattle.qpu_asm.specs.Pieces.named t) else Ok (None, x ∷ y ∷ rest)) ≡ Ok (suffixed x.token n, rest)
+    → (if is_dot s then suffix_of x.token y.token rest (named t) else Ok (None, x ∷ y ∷ rest)) ≡ Ok (suffixed x.token n, rest)
 suffix_step x y rest s t n e f = rw (e, f) refl
 
 pub suffix_there : (x y : Placed) (rest : List Placed) (n : Name) → x.symbol ≡ symbol.Dot → y.symbol ≡ symbol.Name n
@@ -272,6 +270,10 @@ target_named (FileB n) = file_b_named n (nat_lt n 32)
 pub record SaysCore (to : Place) (c : Core) : Type 0 where
   pub place : target_place c ≡ Some to
   pub there : (to ≡ Both 39 → ⊥) → somewhere c ≡ Some to
+
+-- a place that is there
+pub place_by : (o : Option Place) (to other : Place) → o ≡ Some to → unwrap_or o other ≡ to
+place_by o to other e = rw e refl
 
 says_nowhere : SaysCore (Both 39) core.Nowhere
 says_nowhere = record { place = refl; there = λ no. absurd (no refl) }

@@ -1,5 +1,5 @@
 -- No sign `;` stands in a part of a canonical line.
-use Rattle.std.proofs.Common.{◌≡◌, ℕ, Bool, true, false, List, [], ◌∷◌, ◌++◌, refl}
+use Rattle.std.proofs.Common.{Bool, true, false, List, [], ◌∷◌, ◌++◌, refl}
 use Rattle.std.specs.Prelude.{◌==◌, ◌&&◌, nat_lt, nat_le, Option, Some, None, if◌then◌else◌}
 use Rattle.qpu_word.specs.declared.name.Place.{Place}
 use Rattle.qpu_word.specs.declared.name.Place.TheVariants.{Both, FileA as InA, FileB as InB}
@@ -7,7 +7,7 @@ use Rattle.qpu_line.specs.declared.operand.Operand.{Operand}
 use Rattle.qpu_line.specs.declared.operand.Operand.TheVariants.{Accumulator, FileA, FileB, Small}
 use Rattle.qpu_line.specs.declared.part.Part.{Part as UnitDoes}
 use Rattle.qpu_line.specs.declared.name.Name.{Name}
-use Rattle.qpu_line.specs.Lines.{Bit, Word, Dash, Comma, Space, symbols_of, target_bits, flags_bits, operand_bits, unpack_bits, and_then, suffix}
+use Rattle.qpu_line.specs.Lines.{Bit, Word, Dash, Comma, Space, symbols_of, target_bits, flags_bits, operand_bits, and_then, suffix}
 use Rattle.qpu_asm.proofs.AgainPieces.{maybe_suffix}
 use Rattle.qpu_asm.proofs.AgainUnits.{unit_bits, both_bits, condition_suffix, pack_suffix}
 use Rattle.qpu_asm.proofs.AgainSections.{Plain, bits_plain}

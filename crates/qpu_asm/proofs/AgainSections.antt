@@ -1,7 +1,7 @@
 -- A line of parts between signs `;` is cut into its sections, and these are read as parts.
 use Rattle.std.proofs.Common.{◌≡◌, ℕ, Bool, true, false, List, [], ◌∷◌, ◌++◌, append_assoc, refl, sym, ap, ◌∙◌, subst}
 use Rattle.std.proofs.lemmas.List.{append-nil}
-use Rattle.std.specs.Prelude.{fold, Option, Some, None, Result, Ok, Err, if◌then◌else◌}
+use Rattle.std.specs.Prelude.{fold, Option, None, Result, Ok, if◌then◌else◌}
 use Rattle.std.specs.Option.{option_or}
 use Rattle.qpu_token.specs.declared.token.Token.{Token}
 use Rattle.qpu_token.specs.declared.fault.AsmFault.{AsmFault}
@@ -15,7 +15,6 @@ use Rattle.qpu_asm.specs.declared.part.Part.{Part}
 use Rattle.qpu_asm.specs.declared.line.Line.{Line}
 use Rattle.qpu_asm.specs.declared.line.Line.TheVariants.{Says}
 use Rattle.qpu_asm.specs.Roles.{is_mnemonic}
-use Rattle.qpu_asm.specs.Reading.{go_on}
 use Rattle.qpu_asm.specs.Parts.{part_by}
 use Rattle.qpu_asm.specs.Orders.{due}
 use Rattle.qpu_asm.specs.Pieces.{is_dot, is_colon}
@@ -24,7 +23,7 @@ use Rattle.qpu_asm.specs.Sections.{is_semicolon, Cutting, cut_on, put_section, s
 use Rattle.qpu_asm.specs.Marks.{marks_of}
 use Rattle.qpu_asm.specs.Judging.{line_fault}
 use Rattle.qpu_asm.specs.Meanings.{meaning}
-use Rattle.qpu_asm.specs.LinesRead.{by_fault, by_parts, by_unknown, instruction_line, read_line}
+use Rattle.qpu_asm.specs.LinesRead.{instruction_line, read_line}
 use Rattle.qpu_asm.proofs.AgainSpelled.{Spelled, spelled_append, spelled_front, symbols_append}
 
 -- symbols with no sign `;`

@@ -1,9 +1,8 @@
 -- The line of a semaphore instruction is read.
-use Rattle.std.proofs.Common.{◌≡◌, ℕ, ◌<◌, Bool, true, false, List, [], ◌∷◌, refl, sym, ap, ◌∙◌, subst, arith}
+use Rattle.std.proofs.Common.{◌≡◌, ℕ, ◌<◌, Bool, true, false, List, [], ◌∷◌, refl, arith}
 use Rattle.std.proofs.lemmas.Bool.Decides.{nat_tests}
-use Rattle.std.specs.Prelude.{◌&&◌, not, nat_le, Option, Some, None, Result, Ok, Err, if◌then◌else◌}
+use Rattle.std.specs.Prelude.{◌&&◌, nat_le, None, Ok, if◌then◌else◌}
 use Rattle.qpu_token.specs.declared.token.Token.{Token}
-use Rattle.qpu_line.specs.declared.instruction.Instruction.{Instruction}
 use Rattle.qpu_line.specs.declared.instruction.Instruction.TheVariants as instruction
 use Rattle.qpu_line.specs.declared.name.Name.{Name}
 use Rattle.qpu_line.specs.declared.name.Name.TheVariants as name
@@ -17,19 +16,17 @@ use Rattle.qpu_asm.specs.declared.piece.Piece.{Piece}
 use Rattle.qpu_asm.specs.declared.part.Part.{Part}
 use Rattle.qpu_asm.specs.declared.part.Part.TheVariants as part
 use Rattle.qpu_asm.specs.declared.line.Line.TheVariants.{Says}
-use Rattle.qpu_asm.specs.declared.mark.Mark.{Mark}
 use Rattle.qpu_asm.specs.Pieces.{bare}
 use Rattle.qpu_asm.specs.Parts.{last_value, part_by}
 use Rattle.qpu_asm.specs.Orders.{begins}
 use Rattle.qpu_asm.specs.Roles.{is_mnemonic}
-use Rattle.qpu_asm.specs.SectionTokens.{SectionTokens}
-use Rattle.qpu_asm.specs.Marks.{number_between, part_marks, marks_of}
+use Rattle.qpu_asm.specs.Marks.{part_marks, marks_of}
 use Rattle.qpu_asm.specs.Judging.{line_fault}
 use Rattle.qpu_asm.specs.Meanings.{meaning}
 use Rattle.qpu_asm.specs.LinesRead.{read_line}
 use Rattle.qpu_asm.proofs.AgainSpelled.{Spelled}
-use Rattle.qpu_asm.proofs.AgainSections.{AreSections, IsLine, line_read}
-use Rattle.qpu_asm.proofs.AgainMarks.{Given, NoTarget, clean_start, no_fault}
+use Rattle.qpu_asm.proofs.AgainSections.{line_read}
+use Rattle.qpu_asm.proofs.AgainMarks.{nothing_given, NoTarget, clean_start, no_fault}
 use Rattle.qpu_asm.proofs.AgainForms.{due_first, one_section, last_number}
 
 abbrev step_part : Bool → Piece → Part
@@ -63,8 +60,7 @@ step_marks false n t e = rw e refl
 
 step_fault : (down : Bool) (n : ℕ) (t : Token) → n < 16 → line_fault (marks_of (step_part down (bare (core.Number n) t) ∷ [])) ≡ None
 step_fault down n t near =
-    let g : Given = record { small = false; a = 0; unpack = 0; b = 0; adds = false; turns = false } in
-    rw (step_marks down n t (near_by n near)) (no_fault NoTarget g [] (clean_start NoTarget g))
+    rw (step_marks down n t (near_by n near)) (no_fault NoTarget nothing_given [] (clean_start NoTarget nothing_given))
 
 step_says : (at : ℕ) (down : Bool) (n : ℕ) (t : Token) → meaning at (step_part down (bare (core.Number n) t)) [] ≡ instruction.Semaphore (record { down = down; number = n })
 unfolding meaning

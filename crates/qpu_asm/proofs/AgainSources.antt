@@ -1,20 +1,17 @@
 -- What the pieces of a canonical line mark and mean: targets, operands and suffixes.
-use Rattle.std.proofs.Common.{◌≡◌, ℕ, ◌<◌, Bool, true, false, List, [], ◌∷◌, ◌++◌, refl, sym, ap, ◌∙◌, subst, arith}
+use Rattle.std.proofs.Common.{◌≡◌, ℕ, ◌<◌, Bool, true, false, List, refl, sym, ap, ◌∙◌, subst, arith}
 use Rattle.std.proofs.lemmas.Bool.Decides.{nat_tests}
-use Rattle.std.specs.Prelude.{◌==◌, ◌&&◌, ◌||◌, not, nat_lt, nat_le, Option, Some, None, is_none, unwrap_or, if◌then◌else◌}
+use Rattle.std.specs.Prelude.{◌==◌, ◌&&◌, ◌||◌, nat_lt, Option, Some, None, is_none, unwrap_or, if◌then◌else◌}
 use Rattle.qpu_token.specs.declared.token.Token.{Token}
 use Rattle.qpu_word.specs.declared.name.Place.{Place}
-use Rattle.qpu_word.specs.declared.name.Place.TheVariants.{Both, FileA as InA, FileB as InB}
 use Rattle.qpu_word.specs.Words.{between}
 use Rattle.qpu_word.specs.Operands.{small_value}
 use Rattle.qpu_line.specs.declared.operand.Operand.{Operand}
 use Rattle.qpu_line.specs.declared.operand.Operand.TheVariants.{Accumulator, FileA, FileB, Small}
 use Rattle.qpu_line.specs.declared.name.Name.{Name}
 use Rattle.qpu_line.specs.declared.name.Name.TheVariants as name
-use Rattle.qpu_line.specs.declared.name.Register.TheVariants as register
 use Rattle.qpu_line.specs.Targets.{is_row_a}
 use Rattle.qpu_line.specs.Named.{is_unpack_at, is_pack_at}
-use Rattle.qpu_asm.specs.declared.piece.Core.{Core}
 use Rattle.qpu_asm.specs.declared.piece.Core.TheVariants as core
 use Rattle.qpu_asm.specs.declared.piece.Suffix.{Suffix}
 use Rattle.qpu_asm.specs.declared.piece.Piece.{Piece}
@@ -22,18 +19,15 @@ use Rattle.qpu_asm.specs.declared.part.Suffixes.{Suffixes}
 use Rattle.qpu_asm.specs.declared.mark.What.TheVariants as what
 use Rattle.qpu_asm.specs.declared.mark.Mark.{Mark}
 use Rattle.qpu_asm.specs.Roles.{source_of}
-use Rattle.qpu_asm.specs.Marks.{code_of, fixed, unpack_marks, source_marks, number_marks, operand_marks, pack_marks, place_mark, target_place, target_marks, suffix_marks, mark}
-use Rattle.qpu_asm.specs.Meanings.{unpack_in, pack_in, operand_of, with_unpack, operand_of_core, condition_in, sets_in}
+use Rattle.qpu_asm.specs.Marks.{code_of, fixed, unpack_marks, source_marks, number_marks, operand_marks, pack_marks, target_place, target_marks, suffix_marks, mark}
+use Rattle.qpu_asm.specs.Meanings.{unpack_in, pack_in, operand_of, with_unpack, condition_in, sets_in}
 use Rattle.qpu_asm.proofs.SmallLemmas.{code_found}
-use Rattle.qpu_asm.proofs.AgainPieces.{Suffixed, suffixed, SaysSuffixes, SaysCore}
+use Rattle.qpu_asm.proofs.AgainPieces.{Suffixed, SaysSuffixes}
 use Rattle.qpu_asm.proofs.AgainOperands.{SaysOperand, unpack_suffix}
 use Rattle.qpu_asm.proofs.AgainUnits.{condition_suffix, pack_suffix}
-use Rattle.qpu_asm.proofs.AgainMarks.{Given, Fits, NoTarget, Clean, clean_mark, clean_if, clean_first, clean_second, Only, AnyTarget}
+use Rattle.qpu_asm.proofs.AgainMarks.{Given, Clean, clean_mark, clean_if}
 
 -- unpack modes
-
-unpack_to : Bool → Bool → ℕ → Option Name
-unpack_to a b u = if a then None else if b then Some name.Replicate else Some (name.Pack u)
 
 unpack_by : (u : ℕ) (a b : Bool) (s : Option Suffix) → (u == 0) ≡ a → (u == 3) ≡ b → (a ≡ false → nat_lt u 8 ≡ true)
     → Suffixed (if a then None else if b then Some name.Replicate else Some (name.Pack u)) s → unpack_in s ≡ u

@@ -1,11 +1,7 @@
 -- Tokens that spell symbols one after another, up to those that are left.
-use Rattle.std.proofs.Common.{◌≡◌, ℕ, Bool, true, false, List, [], ◌∷◌, ◌++◌, append_assoc, refl, sym, ap, ◌∙◌, subst, map}
-use Rattle.std.proofs.lemmas.List.{append-nil}
+use Rattle.std.proofs.Common.{◌≡◌, true, false, List, [], ◌∷◌, ◌++◌, refl, ap, map}
 use Rattle.std.proofs.lemmas.List.Concat.{flat_map-append}
-use Rattle.std.specs.Prelude.{◌&&◌, not, fold, Option, Some, None}
-use Rattle.qpu_token.specs.declared.token.Token.{Token}
 use Rattle.qpu_line.specs.declared.symbol.Symbol.{Symbol}
-use Rattle.qpu_line.specs.declared.symbol.Symbol.TheVariants as symbol
 use Rattle.qpu_line.specs.Lines.{Bit, bit_symbols, symbols_of}
 use Rattle.qpu_asm.specs.declared.placed.Placed.{Placed}
 
@@ -38,9 +34,6 @@ spelled_front (s ∷ ss) (x ∷ xs) rest h =
 pub symbols_append : (a b : List Bit) → symbols_of (a ++ b) ≡ symbols_of a ++ symbols_of b
 symbols_append a b = flat_map-append bit_symbols a b
 
--- a token with another symbol
-abbrev pub as_symbol : Placed → Symbol → Placed
-as_symbol x s = record { symbol = s; token = x.token; label = x.label }
-
-pub token_is : (x : Placed) (s : Symbol) → x.symbol ≡ s → x ≡ as_symbol x s
-token_is x s e = ap (as_symbol x) e
+-- no case of this
+pub never : false ≡ true → ⊥
+never e = cc

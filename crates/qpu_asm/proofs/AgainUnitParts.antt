@@ -1,19 +1,19 @@
 -- The part of a unit that is read marks what its word holds, and means what the unit does.
-use Rattle.std.proofs.Common.{◌≡◌, ℕ, ◌<◌, Bool, true, false, List, [], ◌∷◌, refl, sym, ap, ◌∙◌, subst, arith}
-use Rattle.std.specs.Prelude.{◌==◌, ◌&&◌, ◌||◌, not, Option, Some, None, unwrap_or, if◌then◌else◌}
+use Rattle.std.proofs.Common.{◌≡◌, ℕ, Bool, true, false, List, refl, sym, ap, ◌∙◌}
+use Rattle.std.specs.Prelude.{not, if◌then◌else◌}
 use Rattle.qpu_token.specs.declared.token.Token.{Token}
 use Rattle.qpu_word.specs.declared.name.Place.{Place}
 use Rattle.qpu_line.specs.declared.operand.Operand.{Operand}
 use Rattle.qpu_line.specs.declared.operand.Operand.TheVariants.{Accumulator, FileA, FileB, Small}
 use Rattle.qpu_line.specs.declared.part.Part.{Part as UnitDoes}
 use Rattle.qpu_line.specs.declared.name.Name.{Name}
-use Rattle.qpu_line.specs.Targets.{address_of}
 use Rattle.qpu_line.specs.Named.{IsNamedOperand, IsNamedPart, is_pack_at}
 use Rattle.qpu_asm.specs.declared.part.UnitPart.{UnitPart}
 use Rattle.qpu_asm.specs.declared.mark.What.TheVariants as what
 use Rattle.qpu_asm.specs.declared.mark.Mark.{Mark}
 use Rattle.qpu_asm.specs.Marks.{mark, mark_if, suffix_marks, target_marks, operand_marks, unit_marks, target_place}
-use Rattle.qpu_asm.specs.Meanings.{unit_of, place_of, condition_at, condition_in, pack_in, operand_of, is_nowhere, sets_in}
+use Rattle.qpu_asm.specs.Meanings.{unit_of, place_of, condition_at, condition_in, pack_in, operand_of, is_nowhere}
+use Rattle.qpu_asm.proofs.AgainPieces.{place_by}
 use Rattle.qpu_asm.proofs.AgainUnits.{SaysUnit}
 use Rattle.qpu_asm.proofs.AgainMarks.{Given, Clean, clean_if}
 use Rattle.qpu_asm.proofs.AgainSources.{Holds, CanRead, operand_clean, operand_back, suffixes_clean, condition_back, pack_clean, pack_back, target_marks_are}
@@ -45,9 +45,6 @@ same_part p op cond pack to a b e f g h i j = rw (e, f, g, h, i, j) refl
 condition_by : (b : Bool) (n cond : ℕ) → (b ≡ true → cond ≡ 1) → n ≡ cond → (if b then 1 else n) ≡ cond
 condition_by true n cond always e = sym (always refl)
 condition_by false n cond always e = e
-
-place_by : (o : Option Place) (to other : Place) → o ≡ Some to → unwrap_or o other ≡ to
-place_by o to other e = rw e refl
 
 can_read : (o : Operand) → IsNamedOperand o → CanRead o
 can_read (Accumulator n) named = tt

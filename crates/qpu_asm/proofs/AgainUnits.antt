@@ -1,29 +1,25 @@
 -- The part of a unit of a canonical line is read.
-use Rattle.std.proofs.Common.{◌≡◌, ℕ, ◌+◌, ◌-◌, ◌*◌, ◌<◌, ◌≤◌, Bool, true, false, List, [], ◌∷◌, ◌++◌, refl, sym, ap, ◌∙◌, append_assoc, subst, arith}
+use Rattle.std.proofs.Common.{◌≡◌, ℕ, Bool, true, false, List, [], ◌∷◌, ◌++◌, refl, ap, append_assoc}
 use Rattle.std.proofs.lemmas.List.{append-nil}
-use Rattle.std.specs.Prelude.{◌==◌, not, nat_lt, Option, Some, None, Result, Ok, Err, if◌then◌else◌}
+use Rattle.std.specs.Prelude.{◌==◌, nat_lt, Option, Some, None, Ok, if◌then◌else◌}
 use Rattle.qpu_token.specs.declared.token.Token.{Token}
 use Rattle.qpu_line.specs.declared.operand.Operand.{Operand}
 use Rattle.qpu_line.specs.declared.part.Part.{Part as UnitDoes}
 use Rattle.qpu_line.specs.declared.name.Name.{Name}
 use Rattle.qpu_line.specs.declared.name.Name.TheVariants as name
 use Rattle.qpu_line.specs.declared.symbol.Symbol.TheVariants as symbol
-use Rattle.qpu_line.specs.Lines.{Bit, Word, Comma, Space, Dot, symbols_of, suffix, condition_bits, flags_bits, pack_bits, target_bits, operand_bits, and_then, part_bits}
+use Rattle.qpu_line.specs.Lines.{Bit, Word, Comma, Space, symbols_of, suffix, condition_bits, flags_bits, pack_bits, target_bits, operand_bits, and_then, part_bits}
 use Rattle.qpu_line.specs.Named.{IsNamedOperand, IsNamedPart}
 use Rattle.qpu_asm.specs.declared.placed.Placed.{Placed}
-use Rattle.qpu_asm.specs.declared.piece.Core.{Core}
-use Rattle.qpu_asm.specs.declared.piece.Suffix.{Suffix}
 use Rattle.qpu_asm.specs.declared.piece.Piece.{Piece}
 use Rattle.qpu_asm.specs.declared.part.Suffixes.{Suffixes}
 use Rattle.qpu_asm.specs.declared.part.UnitPart.{UnitPart}
-use Rattle.qpu_asm.specs.declared.part.Part.{Part}
 use Rattle.qpu_asm.specs.declared.part.Part.TheVariants as part
-use Rattle.qpu_asm.specs.Reading.{Read, go_on, ended}
 use Rattle.qpu_asm.specs.Pieces.{comma_at, target_at, operand_at}
 use Rattle.qpu_asm.specs.Parts.{suffixes_at, one_operand, two_operands, operands_at, unit_part}
 use Rattle.qpu_asm.specs.Roles.{takes_one}
 use Rattle.qpu_asm.proofs.AgainSpelled.{Spelled}
-use Rattle.qpu_asm.proofs.AgainPieces.{Ends, NoDot, maybe_suffix, Suffixed, SaysSuffixes, suffixes_read, SaysCore, target_no_dot, target_read}
+use Rattle.qpu_asm.proofs.AgainPieces.{Ends, maybe_suffix, Suffixed, SaysSuffixes, suffixes_read, SaysCore, target_no_dot, target_read}
 use Rattle.qpu_asm.proofs.AgainOperands.{SaysOperand, operand_read}
 
 abbrev pub condition_suffix : ℕ → Option Name
