@@ -1,6 +1,7 @@
 pub mod SmallLemmas
 pub mod ProperTokens
 pub mod GoodNames
+pub mod TestLemmas
 pub mod MarkLemmas
 pub mod ProperParts
 pub mod ProperLines
@@ -11,6 +12,10 @@ pub mod OperandMarks
 pub mod UnitMarks
 pub mod ExtraMarks
 pub mod SharedFields
+pub mod UnitsLine
+pub mod FieldRanges
+pub mod UnitsHeld
+pub mod OtherReads
 pub mod UnitsLaw
 pub mod LineLaw
 pub mod RawLaw
