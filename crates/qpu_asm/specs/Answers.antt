@@ -21,3 +21,8 @@ StopsAt due Memory = Unit {0}
 abbrev pub Answers : {A : Type 0} → Result A AsmFault → Result A Stop → Type 0
 Answers due (Ok a) = due ≡ Ok a
 Answers due (Err stop) = StopsAt due stop
+
+-- the same of a call that changes what stands before it
+abbrev pub Leads : {A : Type 0} → Result A AsmFault → A → Result (Unit {0}) Stop → Type 0
+Leads due after (Ok u) = due ≡ Ok after
+Leads due after (Err stop) = StopsAt due stop

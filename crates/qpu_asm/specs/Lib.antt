@@ -13,4 +13,6 @@ pub mod Judging
 pub mod Meanings
 pub mod Answers
 pub mod LinesRead
+pub mod Assembly
 pub mod Laws
+pub mod HexLines

@@ -1,7 +1,17 @@
-//! The assembler's last stage, and the assembler whole.
+//! The assembler whole, and its last stage: the lines that the expansion leaves are read, judged and
+//! told as words.
+//!
+//! A line is cut at its signs `;` into parts. First its shape is judged: which tokens stand where and
+//! which parts follow which. What the names and numbers of its parts stand for is then marked in the
+//! line's order, and the marks are judged kind by kind; a line without a fault says an instruction
+//! (qpu_line), whose canonical word is the line's. `assemble` answers exactly the words of a text or
+//! exactly its first fault, with its place.
 #![tactic(auto)]
 
+mod again;
+mod assembly;
 mod expression;
+mod hex;
 mod judge;
 mod laws;
 mod line;
@@ -15,3 +25,9 @@ mod placed;
 mod roles;
 mod section;
 mod stop;
+mod words;
+
+pub use again::canonical_lines_are_read;
+pub use assembly::assemble;
+pub use laws::{lines_have_words, placed_tokens_are_proper, raw_lines_are_words};
+pub use words::words_of;

@@ -1,1 +1,11 @@
 pub mod TextLemmas
+pub mod NumberLemmas
+pub mod NameFacts
+pub mod BitLemmas
+pub mod JoinLemmas
+pub mod AmongLemmas
+pub mod PartLemmas
+pub mod FactLemmas
+pub mod LineLemmas
+pub mod LineLaw
+pub mod TextTrials

@@ -40,9 +40,9 @@ fn put_word<K: Sink>(word: Word, sink: &mut K) -> Result<(), SinkFailed>
     put_all(&pieces, sink)
 }
 
-/// Writes the line of a canonical word without its end, and `.word` with sixteen hexadecimal digits
-/// for each other word. The one error is the sink's: then a front of the line was written. It takes
-/// no memory.
+/// Writes the line of a canonical word without its end, and `.word 0x` with sixteen lower-case digits
+/// exactly where the word isn't canonical. The one error is the sink's: then a front of the line was
+/// written. It takes no memory. The lines are this project's own.
 #[tactic(auto, unfolding(crate::specs::Text::canonical_line))]
 pub fn line_of<K: Sink>(word: Word, sink: &mut K) -> Result<(), SinkFailed>
     ensures { Prints (K.shown sink.old) (K.shown sink.new) (canonical_line word.0) result }
@@ -62,8 +62,8 @@ fn put_line<K: Sink>(word: Word, sink: &mut K) -> Result<(), SinkFailed>
     write_all_of(sink, b"\n")
 }
 
-/// Writes the lines of words, each with a line feed. The one error is the sink's: then a front of
-/// the text was written. It takes no memory.
+/// Writes the lines of words in their order, each with a line feed. The one error is the sink's: then
+/// a front of the text was written. It takes no memory. The text is this project's own.
 #[tactic(auto, unfolding(crate::specs::Text::disassembly))]
 pub fn disassemble<K: Sink>(words: &[Word], sink: &mut K) -> Result<(), SinkFailed>
     ensures { Prints (K.shown sink.old) (K.shown sink.new) (disassembly (map (λ word. word.0) words.now)) result }

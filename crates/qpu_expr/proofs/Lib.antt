@@ -5,3 +5,10 @@ pub mod RoomLemmas
 pub mod RunLemmas
 pub mod TableLemmas
 pub mod OnlyTreeLaw
+pub mod KeepLemmas
+pub mod DeedLemmas
+pub mod CountLemmas
+pub mod FewLemmas
+pub mod EndLemmas
+pub mod StageEndLemmas
+pub mod EndedLemmas

@@ -21,3 +21,4 @@ pub mod Leads
 pub mod Expansion
 pub mod Nesting
 pub mod Answer
+pub mod Ended

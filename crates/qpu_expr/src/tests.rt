@@ -121,7 +121,7 @@ fn lines_of_no_shape_are_left_and_give_a_word(rt: HostRuntime) -> Result<(), Fai
             "ldi r0 , 1 / 0 2 | ldi r0 , 1 + | ",
         ),
         (":5 nop 1/0\n:", ": 5 nop 1 / 0 | : | "),
-        (":a :b nop\n:c nop", ": b nop | nop | a=0 c=1 "),
+        (":a :b nop\n:c nop", ": a : b nop | nop | a=0 c=1 "),
         (".foo 1/0\n:a nop", ". foo 1 / 0 | nop | a=1 "),
         (
             ".set x 5\n.set x, 1 +\n.set\n.set x, 2\n:a ldi r0, x",
@@ -500,5 +500,22 @@ fn tokens_have_the_place_of_their_parameter(rt: HostRuntime) -> Result<(), Fail>
         (TokenKind::LineEnd, 2, 6),
     ];
     assert!(rt; found.as_slice() == due.as_slice());
+    Ok(())
+}
+
+#[test]
+fn a_line_with_a_second_label_is_left_whole(rt: HostRuntime) -> Result<(), Fail> {
+    let text = ":a :b nop";
+    let found = places(rt.alloc(), text)?;
+    let due = [
+        (TokenKind::Punct, 1, 1),
+        (TokenKind::Name, 1, 2),
+        (TokenKind::Punct, 1, 4),
+        (TokenKind::Name, 1, 5),
+        (TokenKind::Name, 1, 7),
+        (TokenKind::LineEnd, 1, 10),
+    ];
+    assert!(rt; found.as_slice() == due.as_slice());
+    assert!(rt; shown(rt.alloc(), text)?.as_str() == ": a : b nop | a=0 ");
     Ok(())
 }

@@ -48,6 +48,10 @@ IsRowName (RegisterName (RowA n)) = n < 32
 IsRowName (RegisterName (RowB n)) = n < 32
 IsRowName _ = ⊥
 
+-- the names that aren't those of rows
+abbrev pub other_names : List Name
+other_names = WORDS
+
 -- the names of the language: those of rows, and the others
 abbrev pub IsNameOfLanguage : Name → Type 0
-IsNameOfLanguage n = IsRowName n ⊎ Contains WORDS n
+IsNameOfLanguage n = IsRowName n ⊎ Contains other_names n

@@ -3,49 +3,12 @@ ghost use Rattle.std.specs.Prelude.{◌≡◌, ◌+◌, ◌*◌, ◌^◌};
 ghost use Rattle.qpu_line.specs.Slots.{unit_fields, unit_high, unit_low, unit_word};
 
 use qpu_word::Fields;
-
-/// The lowest bits of fields in a word's upper half, as numbers.
-pub(crate) const SIGNAL: u32 = 1 << 28;
-
-pub(crate) const KIND: u32 = 1 << 25;
-
-pub(crate) const PACK: u32 = 1 << 20;
-
-pub(crate) const ADD_CONDITION: u32 = 1 << 17;
-
-pub(crate) const MUL_CONDITION: u32 = 1 << 14;
-
-pub(crate) const SETS: u32 = 1 << 13;
-
-pub(crate) const EXCHANGE: u32 = 1 << 12;
-
-pub(crate) const ADD_ADDRESS: u32 = 1 << 6;
-
-pub(crate) const MUL_ADDRESS: u32 = 1;
-
-/// The lowest bits of fields of branches alone, in the upper half.
-pub(crate) const RELATIVE: u32 = 1 << 19;
-
-pub(crate) const REGISTER: u32 = 1 << 18;
-
-pub(crate) const ROW: u32 = 1 << 13;
-
-/// The lowest bits of fields in the lower half of a word in which both units compute.
-pub(crate) const MUL_OPERATION: u32 = 1 << 29;
-
-pub(crate) const ADD_OPERATION: u32 = 1 << 24;
-
-pub(crate) const READ_A: u32 = 1 << 18;
-
-pub(crate) const READ_B: u32 = 1 << 12;
-
-pub(crate) const ADD_FIRST: u32 = 1 << 9;
-
-pub(crate) const ADD_SECOND: u32 = 1 << 6;
-
-pub(crate) const MUL_FIRST: u32 = 1 << 3;
-
-pub(crate) const MUL_SECOND: u32 = 1;
+pub(crate) use qpu_word::slot::{
+    ADD_ADDRESS, ADD_CODES, ADD_CONDITION, ADD_FIRST, ADD_OPERATION, ADD_SECOND, ADDRESSES,
+    BRANCH_CONDITIONS, BRANCH_ROWS, CONDITIONS, EXCHANGE, FLAGS, KIND, MUL_ADDRESS, MUL_CODES,
+    MUL_CONDITION, MUL_FIRST, MUL_OPERATION, MUL_SECOND, MUXES, PACK, PACKS, READ_A, READ_B,
+    REGISTER, RELATIVE, ROW, SETS, SIGNAL, SIGNALS, UNPACKS,
+};
 
 /// A word of two halves.
 pub(crate) fn join(high: u32, low: u32) -> u64
@@ -53,29 +16,6 @@ pub(crate) fn join(high: u32, low: u32) -> u64
 {
     (u64::from(high) << 32) + u64::from(low)
 }
-
-/// How many values fields have.
-pub(crate) const CONDITIONS: u32 = 8;
-
-pub(crate) const ADDRESSES: u32 = 64;
-
-pub(crate) const PACKS: u32 = 16;
-
-pub(crate) const UNPACKS: u32 = 8;
-
-pub(crate) const MUXES: u32 = 8;
-
-pub(crate) const MUL_CODES: u32 = 8;
-
-pub(crate) const ADD_CODES: u32 = 32;
-
-pub(crate) const BRANCH_ROWS: u32 = 32;
-
-pub(crate) const BRANCH_CONDITIONS: u32 = 16;
-
-pub(crate) const SIGNALS: u32 = 16;
-
-pub(crate) const FLAGS: u32 = 2;
 
 /// The fields of a word in which both units compute (Guide, "QPU Instruction Encoding").
 #[derive(Clone, Copy, Debug, PartialEq, Eq)]

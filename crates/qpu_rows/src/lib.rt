@@ -6,7 +6,11 @@
 #[cfg(test)]
 mod asking;
 #[cfg(test)]
+mod assembler;
+#[cfg(test)]
 mod cuts;
+#[cfg(test)]
+mod hexadecimal;
 #[cfg(test)]
 mod jobs;
 #[cfg(test)]

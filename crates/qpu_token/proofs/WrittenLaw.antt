@@ -1,5 +1,5 @@
 -- A text that is written item by item has the tokens of its items.
-use Rattle.std.proofs.Common.{◌≡◌, ℕ, zero, suc, ◌<◌, Bool, true, false, ◌||◌, List, [], ◌∷◌, ◌++◌, length, take, drop, get_or, refl, ap, sym, subst, ◌∙◌, append-nil, append_assoc, arith}
+use Rattle.std.proofs.Common.{◌≡◌, ℕ, zero, suc, ◌^◌, ◌<◌, Bool, true, false, ◌||◌, List, [], ◌∷◌, ◌++◌, length, take, drop, get_or, refl, ap, sym, subst, ◌∙◌, append-nil, append_assoc, arith}
 use Rattle.std.specs.Prelude.{◌==◌, nat_lt, fold, if◌then◌else◌}
 use Rattle.std.specs.List.{list_all}
 use Rattle.std.proofs.lemmas.Bool.Decides.{nat_tests}
@@ -8,12 +8,12 @@ use Rattle.std.proofs.lemmas.List.Sums.{fold-append}
 use Rattle.qpu_token.specs.declared.token.TokenKind.TheVariants as kind
 use Rattle.qpu_token.specs.declared.piece.Shape.TheVariants as shape
 use Rattle.qpu_token.specs.declared.before.Before.{Before}
-use Rattle.qpu_token.specs.declared.before.Before.TheVariants.{Other}
+use Rattle.qpu_token.specs.declared.before.Before.TheVariants.{Other, Dot, DotWord}
 use Rattle.qpu_token.specs.declared.place.Place.{Place}
 use Rattle.qpu_token.specs.Words.{is_letter, is_digit, is_hex_digit, is_name_byte, is_run, is_hexadecimal, number_value}
 use Rattle.qpu_token.specs.Places.{next_place, first_place, place_at}
 use Rattle.qpu_token.specs.Tokens.{dotted, Begins, after_text, bound, last_end}
-use Rattle.qpu_token.specs.Written.{Item, Name, Number, Sign, Space, LineFeed, item_text, items_text, Told, items_told, at_first, CanStand, EndsLine, HasTokens}
+use Rattle.qpu_token.specs.Written.{Item, Name, Number, Sign, Space, LineFeed, item_text, items_text, Told, items_told, Stage, at_first, CanStand, EndsLine, HasTokens}
 use Rattle.qpu_token.proofs.PieceLemmas.{blank_begins, feed_begins, sign_begins}
 use Rattle.qpu_token.proofs.WrittenLemmas.{item_stops, name_here, number_here}
 use Rattle.qpu_token.proofs.WrittenSteps.{Reads, nothing_read, word_taken, word_here, dotted_behind, item_on}
@@ -165,6 +165,12 @@ written_on text front b due d (LineFeed ∷ items) is dot stand r =
     (written_on text (front ++ 10 ∷ []) (after_text b (10 ∷ [])) (due ++ (kind.LineEnd, 10 ∷ []) ∷ []) false items
     (next_front text front (10 ∷ []) (items_text items) is) (behind_byte text front (items_text items) 10 is) stand
     (end_on text front (items_text items) b due is (feed_begins (dotted text (length front)) 10 (items_text items) refl) r))
+
+-- numbers of 32 bits may stand anywhere
+pub small_fits : (b : Stage) (n : ℕ) → n < 2 ^ 32 → n < bound b
+small_fits Other n low = low
+small_fits Dot n low = low
+small_fits DotWord n low = omega arith
 
 -- the last line has its end
 

@@ -10,15 +10,11 @@ use crate::code::{
 use crate::word::{Fields, Word};
 
 /// The condition always.
-const ALWAYS: u32 = 1;
+pub(crate) const ALWAYS: u32 = 1;
 
-/// The codes of not and clz, which have one operand.
-const NOT: u32 = 23;
-
-const CLZ: u32 = 24;
-
-/// Immediates of semaphore words lie below.
-const SEMAPHORE_IMMEDIATES: u32 = 32;
+/// How many immediates a canonical semaphore word can have: a bit for the direction and four for
+/// the number.
+pub(crate) const SEMAPHORE_IMMEDIATES: u32 = 32;
 
 /// Whether a write address is another place in file A than in file B (Guide, "QPU Register Address
 /// Map").
@@ -79,8 +75,7 @@ fn mul_rule(f: &Fields) -> bool
 fn operand_rule(f: &Fields) -> bool
     ensures { result ≡ operand_rule f.now }
 {
-    let unary = f.op_add == NOT || f.op_add == CLZ;
-    f.pm == 0 && (!(f.add_active() && unary) || f.add_b == f.add_a)
+    f.pm == 0 && (!(f.add_active() && f.is_unary()) || f.add_b == f.add_a)
 }
 
 /// Whether flags are set only by a unit that is active.

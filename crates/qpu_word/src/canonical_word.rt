@@ -5,17 +5,10 @@ ghost use Rattle.qpu_word.specs.Words.{word_fault, IsInProfile};
 ghost use Rattle.qpu_word.specs.Canonical.{IsCanonical};
 ghost use Rattle.qpu_word.specs.CanonicalWord.{exchange_matters, code_acts, said_by, address_by, cond_by, row_by, canonical_signal, canonical_row_b, canonical_exchange, second_by, canonical_units, canonical_load, canonical_semaphore, canonical_branch, canonical_of_form, canonical_word};
 
-use crate::canonical::file_matters;
+use crate::canonical::{ALWAYS, SEMAPHORE_IMMEDIATES, file_matters};
 use crate::code::{MUX_FILE_A, MUX_FILE_B, NOWHERE, ROTATE_BY_R5, ROWS, SIGNAL_NONE};
 use crate::form::Form;
 use crate::word::{Fields, Word};
-
-/// The condition always.
-const ALWAYS: u32 = 1;
-
-/// How many immediates a canonical semaphore word can have: a bit for the direction and four for
-/// the number.
-const SEMAPHORE_IMMEDIATES: u32 = 32;
 
 /// A field of a unit that acts; else 0.
 fn said_by(acts: bool, n: u32) -> u32

@@ -24,6 +24,7 @@ mod port;
 mod program;
 mod reading;
 mod setup;
+pub mod slot;
 mod state;
 mod traffic;
 mod word;

@@ -1,8 +1,14 @@
-//! Where the fields of a word stand, form by form (Guide, "QPU Instruction Encoding"). Of each
-//! number as many low bits count as its field has.
-ghost use Rattle.std.specs.Prelude.{◌≡◌, ◌+◌, ◌*◌, ◌%◌, ◌^◌};
+//! The word of its fields, form by form (Guide, "QPU Instruction Encoding"). Of each number as many
+//! low bits count as its field has.
+ghost use Rattle.std.specs.Prelude.{◌≡◌, ◌+◌, ◌*◌, ◌^◌};
 ghost use Rattle.qpu_word.specs.Packed.{ends_of, high_of, branch_high, unit_low, unit_word, immediate_word, branch_word};
 
+use crate::slot::{
+    ADD_ADDRESS, ADD_CODES, ADD_CONDITION, ADD_FIRST, ADD_OPERATION, ADD_SECOND, ADDRESSES,
+    BRANCH_CONDITION, BRANCH_CONDITIONS, BRANCH_ROWS, CONDITIONS, EXCHANGE, FLAGS, KIND, KINDS,
+    MUL_ADDRESS, MUL_CODES, MUL_CONDITION, MUL_FIRST, MUL_OPERATION, MUL_SECOND, MUXES, PACK,
+    PACKER, PACKS, READ_A, READ_B, REGISTER, RELATIVE, ROW, SETS, SIGNAL, SIGNALS, UNPACK, UNPACKS,
+};
 use crate::word::{Fields, Word};
 
 /// A word of two halves.
@@ -17,10 +23,10 @@ impl Fields {
     fn ends(&self) -> u32
         ensures { result ≡ ends_of self.now }
     {
-        self.sig % 16 * (1 << 28)
-            + self.ws % 2 * (1 << 12)
-            + self.waddr_add % 64 * (1 << 6)
-            + self.waddr_mul % 64
+        self.sig % SIGNALS * SIGNAL
+            + self.ws % FLAGS * EXCHANGE
+            + self.waddr_add % ADDRESSES * ADD_ADDRESS
+            + self.waddr_mul % ADDRESSES * MUL_ADDRESS
     }
 
     /// What the upper halves of words other than branches share.
@@ -28,11 +34,11 @@ impl Fields {
         ensures { result ≡ high_of self.now }
     {
         self.ends()
-            + self.pm % 2 * (1 << 24)
-            + self.pack % 16 * (1 << 20)
-            + self.cond_add % 8 * (1 << 17)
-            + self.cond_mul % 8 * (1 << 14)
-            + self.sf % 2 * (1 << 13)
+            + self.pm % FLAGS * PACKER
+            + self.pack % PACKS * PACK
+            + self.cond_add % CONDITIONS * ADD_CONDITION
+            + self.cond_mul % CONDITIONS * MUL_CONDITION
+            + self.sf % FLAGS * SETS
     }
 
     /// The upper half of a branch.
@@ -40,26 +46,26 @@ impl Fields {
         ensures { result ≡ branch_high self.now }
     {
         self.ends()
-            + self.kind % 8 * (1 << 25)
-            + self.pm % 2 * (1 << 24)
-            + self.cond_br % 16 * (1 << 20)
-            + self.rel % 2 * (1 << 19)
-            + self.reg % 2 * (1 << 18)
-            + self.raddr_br % 32 * (1 << 13)
+            + self.kind % KINDS * KIND
+            + self.pm % FLAGS * PACKER
+            + self.cond_br % BRANCH_CONDITIONS * BRANCH_CONDITION
+            + self.rel % FLAGS * RELATIVE
+            + self.reg % FLAGS * REGISTER
+            + self.raddr_br % BRANCH_ROWS * ROW
     }
 
     /// The lower half of an ALU or small immediate word.
     fn unit_low(&self) -> u32
         ensures { result ≡ unit_low self.now }
     {
-        self.op_mul % 8 * (1 << 29)
-            + self.op_add % 32 * (1 << 24)
-            + self.raddr_a % 64 * (1 << 18)
-            + self.raddr_b % 64 * (1 << 12)
-            + self.add_a % 8 * (1 << 9)
-            + self.add_b % 8 * (1 << 6)
-            + self.mul_a % 8 * (1 << 3)
-            + self.mul_b % 8
+        self.op_mul % MUL_CODES * MUL_OPERATION
+            + self.op_add % ADD_CODES * ADD_OPERATION
+            + self.raddr_a % ADDRESSES * READ_A
+            + self.raddr_b % ADDRESSES * READ_B
+            + self.add_a % MUXES * ADD_FIRST
+            + self.add_b % MUXES * ADD_SECOND
+            + self.mul_a % MUXES * MUL_FIRST
+            + self.mul_b % MUXES * MUL_SECOND
     }
 
     /// The ALU or small immediate word of the fields.
@@ -67,7 +73,10 @@ impl Fields {
     pub(crate) fn unit_word(&self) -> Word
         ensures { result.0 ≡ unit_word self.now }
     {
-        join(self.high() + self.unpack % 8 * (1 << 25), self.unit_low())
+        join(
+            self.high() + self.unpack % UNPACKS * UNPACK,
+            self.unit_low(),
+        )
     }
 
     /// The load immediate or semaphore word of the fields.
@@ -75,7 +84,7 @@ impl Fields {
     pub(crate) fn immediate_word(&self) -> Word
         ensures { result.0 ≡ immediate_word self.now }
     {
-        join(self.high() + self.kind % 8 * (1 << 25), self.immediate)
+        join(self.high() + self.kind % KINDS * KIND, self.immediate)
     }
 
     /// The branch of the fields.

@@ -1,0 +1,95 @@
+#!/usr/bin/env python3
+"""Measures the program on growing inputs, and prints a table.
+
+    (cd crates/qpu_cli && rt run < /dev/null)    # builds crates/qpu_cli/out/qpu_cli
+    python3 bench/bench.py
+
+Each row is one run of the program: what it read, its processor time, the time for each item, and its
+largest memory as a multiple of its input. It stands outside the gate.
+"""
+
+import os
+import subprocess
+import sys
+import tempfile
+
+PROGRAM = os.path.join(os.path.dirname(__file__), "..", "crates", "qpu_cli", "out", "qpu_cli")
+
+MEBIBYTE = 1 << 20
+
+WORDS = 4096
+
+
+def assembly(size):
+    """Assembly text of so many bytes: 4,096 instructions, and comments up to 65,536 lines."""
+    code = ["add r0, ra1.8a, 5; v8min.ifz r1, r2, r3" for _ in range(WORDS)]
+    comments = 65_536 - WORDS
+    bytes_left = size - sum(len(line) + 1 for line in code)
+    width = max(bytes_left // comments - 2, 0)
+    return "\n".join(code + ["#" + "x" * width] * comments) + "\n"
+
+
+def tokens(count):
+    """One instruction line of so many tokens, which is refused."""
+    return "a " * count + "\n"
+
+
+def loop_job(turns):
+    """Twelve processors, each of which takes five instructions a turn."""
+    words = [
+        0xE002082700000000 + turns,  # ldi r0, turns
+        0xD00228270D9C11C0,          # sub.setf r0, r0, 1
+        0xF03809E7FFFFFFD8,          # brr.anynz -, -40
+        0x100009E7009E7000,          # nop
+        0x100009E7009E7000,          # nop
+        0x100009E7009E7000,          # nop
+        0x300009E7009E7000,          # nop; thrend
+        0x100009E7009E7000,          # nop
+        0x100009E7009E7000,          # nop
+    ]
+    lines = ["qpujob 1", "memory 16", "limit 1000000", "program a"]
+    lines += [f".word 0x{word:016x}" for word in words]
+    lines += ["endprogram"] + [f"start {q} a 0" for q in range(12)]
+    return "\n".join(lines) + "\n"
+
+
+def measure(words, text):
+    """Status, seconds of processor time and kibibytes of one run."""
+    with tempfile.NamedTemporaryFile("w", suffix=".txt", delete=False) as file:
+        file.write(text)
+    script = (
+        "import resource, subprocess, sys\n"
+        "status = subprocess.run(sys.argv[2:], stdin=open(sys.argv[1]), stdout=subprocess.DEVNULL).returncode\n"
+        "used = resource.getrusage(resource.RUSAGE_CHILDREN)\n"
+        "print(status, used.ru_utime + used.ru_stime, used.ru_maxrss)\n"
+    )
+    out = subprocess.run(
+        [sys.executable, "-c", script, file.name, PROGRAM, *words], capture_output=True, text=True, check=True
+    ).stdout.split()
+    os.unlink(file.name)
+    return int(out[0]), float(out[1]), int(out[2])
+
+
+def row(name, words, text, items, unit):
+    status, seconds, memory = measure(words, text)
+    size = max(len(text), 1)
+    print(
+        f"{name:34} {size / MEBIBYTE:8.2f} MiB  status {status:2}  {seconds:7.3f} s"
+        f"  {seconds / max(items, 1) * 1e9:9.1f} ns/{unit:12} {memory * 1024 / size:7.1f} x"
+    )
+
+
+def main():
+    if not os.path.exists(PROGRAM):
+        sys.exit("build the program first: (cd crates/qpu_cli && rt run < /dev/null)")
+    for mebibytes in (1, 2, 4, 8):
+        text = assembly(mebibytes * MEBIBYTE)
+        row("asm, comments to 65,536 lines", ["asm"], text, len(text), "byte")
+    for count in (131_072, 262_144, 524_288, 1_048_576):
+        row("asm, one line of tokens", ["asm"], tokens(count), count, "token")
+    for turns in (25_000, 50_000, 100_000, 199_999):
+        row("run -w 0, a loop on 12 processors", ["run", "-w", "0"], loop_job(turns), 60 * turns, "instruction")
+
+
+if __name__ == "__main__":
+    main()
