@@ -1,7 +1,6 @@
 -- Signals, rotations and other reads of a line in which no fault is found.
-use Rattle.std.proofs.Common.{rules, ◌≡◌, ℕ, ◌+◌, ◌%◌, ◌<◌, inl, inr, Bool, true, false, List, [], ◌∷◌, ◌++◌, Option, Some, None, refl, ap, sym, subst, ◌∙◌, arith}
-use Rattle.std.specs.Prelude.{◌==◌, ◌&&◌, ◌||◌, not, nat_lt, nat_le, IfSome, is_some, unwrap_or, if◌then◌else◌}
-use Rattle.std.specs.Option.{option_or}
+use Rattle.std.proofs.Common.{◌≡◌, ℕ, ◌+◌, ◌%◌, ◌<◌, inl, Bool, true, false, List, [], ◌∷◌, Option, Some, None, refl, arith}
+use Rattle.std.specs.Prelude.{nat_lt, nat_le, IfSome, if◌then◌else◌}
 use Rattle.std.specs.List.{list_any}
 use Rattle.std.proofs.lemmas.Bool.Decides.{nat_tests}
 use Rattle.qpu_token.specs.declared.token.Token.{Token}
@@ -10,24 +9,22 @@ use Rattle.qpu_line.specs.declared.operand.Operand.{Operand}
 use Rattle.qpu_line.specs.declared.operand.Operand.TheVariants as operand
 use Rattle.qpu_line.specs.declared.units.Signal.{Signal}
 use Rattle.qpu_line.specs.declared.units.Signal.TheVariants as signal
-use Rattle.qpu_line.specs.declared.name.Name.{Name}
 use Rattle.qpu_line.specs.Named.{is_source, IsOther}
 use Rattle.qpu_asm.specs.declared.piece.Core.{Core}
 use Rattle.qpu_asm.specs.declared.piece.Core.TheVariants as core
-use Rattle.qpu_asm.specs.declared.piece.Piece.{Piece}
 use Rattle.qpu_asm.specs.declared.part.Part.{Part}
 use Rattle.qpu_asm.specs.declared.part.Part.TheVariants as part
 use Rattle.qpu_asm.specs.declared.mark.What.{What}
 use Rattle.qpu_asm.specs.declared.mark.What.TheVariants as what
 use Rattle.qpu_asm.specs.declared.mark.Mark.{Mark}
-use Rattle.qpu_asm.specs.Roles.{source_of}
 use Rattle.qpu_asm.specs.Marks.{mark, source_in, is_r5, rotation_marks, other_a, other_b, part_marks}
 use Rattle.qpu_asm.specs.Orders.{is_rotation}
-use Rattle.qpu_asm.specs.Meanings.{number_of, rotation_of, signal_part, signal_in, address_a, address_b, address_of_source, other_a_part, other_b_part, first_told}
+use Rattle.qpu_asm.specs.Meanings.{number_of, signal_in, address_a, address_b, address_of_source, other_a_part, other_b_part, first_told}
 use Rattle.qpu_asm.proofs.GoodNames.{IsPlain, source_good}
-use Rattle.qpu_asm.proofs.MarkLemmas.{Has, has_left, has_right}
-use Rattle.qpu_asm.proofs.ProperParts.{Each, GoodCore, GoodPiece, IsQuiet, GoodPart}
+use Rattle.qpu_asm.proofs.MarkLemmas.{Has}
+use Rattle.qpu_asm.proofs.ProperParts.{Each, GoodCore, IsQuiet, GoodPart}
 use Rattle.qpu_asm.proofs.GrowLemmas.{grown_old, grows_rotation, later_marks, later_first, later_rest}
+use Rattle.qpu_asm.proofs.TestLemmas.{some_or}
 
 -- signals
 
@@ -134,10 +131,6 @@ source_plain (core.Number n) good = tt
 source_plain core.Unknown good = tt
 source_plain core.Nowhere good = tt
 source_plain (core.Label at) good = tt
-
-some_or : (P : ℕ → Type 0) (a b : Option ℕ) → IfSome a P → IfSome b P → IfSome (option_or a b) P
-some_or P None b one other = other
-some_or P (Some n) b one other = one
 
 a_part : (p : Part) (U : List Mark) → GoodPart p → ((w : What) → Has w (part_marks true [] p) → Has w U) → (Has what.Wrong U → ⊥) → IfSome (other_a_part p) (OtherSaid what.ReadsA U)
 unfolding part_marks

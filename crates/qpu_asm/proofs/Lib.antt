@@ -21,6 +21,7 @@ pub mod AgainLaw
 pub mod AnswerLemmas
 pub mod ProperTokens
 pub mod GoodNames
+pub mod TestLemmas
 pub mod MarkLemmas
 pub mod ProperParts
 pub mod ProperLines
@@ -31,6 +32,10 @@ pub mod OperandMarks
 pub mod UnitMarks
 pub mod ExtraMarks
 pub mod SharedFields
+pub mod UnitsLine
+pub mod FieldRanges
+pub mod UnitsHeld
+pub mod OtherReads
 pub mod UnitsLaw
 pub mod LineLaw
 pub mod RawLaw

@@ -1,15 +1,12 @@
 -- What a line says has a canonical word.
-use Rattle.std.proofs.Common.{rules, ◌≡◌, ℕ, ◌+◌, ◌<◌, inl, inr, Bool, true, false, List, [], ◌∷◌, ◌++◌, fold, Option, Some, None, Result, Ok, Err, refl, ap, sym, subst, ◌∙◌, append_assoc, arith}
-use Rattle.std.specs.Prelude.{◌==◌, ◌&&◌, ◌||◌, not, All, ◌⊎◌, IfSome, is_some, unwrap_or, if◌then◌else◌}
+use Rattle.std.proofs.Common.{arith, map, ◌≡◌, ℕ, Bool, true, false, List, [], ◌∷◌, ◌++◌, Option, Some, None, Result, Ok, Err, refl, ap, sym, subst, ◌∙◌}
+use Rattle.std.specs.Prelude.{◌||◌, All, IfSome, is_some, if◌then◌else◌}
 use Rattle.std.specs.List.{list_any}
 use Rattle.qpu_token.specs.declared.token.Token.{Token}
 use Rattle.qpu_token.specs.declared.fault.AsmFault.{AsmFault}
-use Rattle.qpu_word.specs.declared.name.Place.{Place}
-use Rattle.qpu_line.specs.declared.part.Part.{Part as UnitDoes}
 use Rattle.qpu_line.specs.declared.units.Units.{Units}
 use Rattle.qpu_line.specs.declared.instruction.Instruction.{Instruction}
 use Rattle.qpu_line.specs.declared.instruction.Instruction.TheVariants as instruction
-use Rattle.qpu_line.specs.declared.name.Name.{Name}
 use Rattle.qpu_line.specs.declared.name.Name.TheVariants as name
 use Rattle.qpu_line.specs.declared.symbol.Symbol.{Symbol}
 use Rattle.qpu_line.specs.declared.symbol.Symbol.TheVariants as symbol
@@ -25,25 +22,28 @@ use Rattle.qpu_asm.specs.declared.mark.Mark.{Mark}
 use Rattle.qpu_asm.specs.declared.line.Line.{Line}
 use Rattle.qpu_asm.specs.declared.line.Line.TheVariants.{Raw, Says}
 use Rattle.qpu_asm.specs.Roles.{op_in_add, op_in_mul}
-use Rattle.qpu_asm.specs.Reading.{go_on, ended}
 use Rattle.qpu_asm.specs.Pieces.{is_dot, is_colon}
-use Rattle.qpu_asm.specs.Orders.{is_unit, is_rotation}
+use Rattle.qpu_asm.specs.Orders.{is_rotation}
 use Rattle.qpu_asm.specs.SectionTokens.{SectionTokens}
 use Rattle.qpu_asm.specs.Sections.{sections_of, unknown_in, first_of, parts_of}
 use Rattle.qpu_asm.specs.Marks.{unit_marks, part_marks, marks_of}
-use Rattle.qpu_asm.specs.Judging.{cross, fault_at, line_fault}
-use Rattle.qpu_asm.specs.Meanings.{place_of, unit_of, mul_in, unit_does, sets_in, unit_sets, signal_in, address_a, address_b, reads_by, other_a_part, other_b_part, first_told, unless, units_of_parts, meaning}
-use Rattle.qpu_asm.specs.LinesRead.{word_number, number_symbol, directive_symbol, directive, by_fault, by_parts, by_unknown, instruction_line, shaped, read_line}
+use Rattle.qpu_asm.specs.Judging.{cross, line_fault}
+use Rattle.qpu_asm.specs.Meanings.{place_of, unit_of, mul_in, unit_does, unit_sets, signal_in, address_a, address_b, reads_by, other_a_part, other_b_part, first_told, unless, units_of_parts, meaning}
+use Rattle.qpu_asm.specs.LinesRead.{word_number, directive_symbol, directive, by_fault, by_parts, by_unknown, instruction_line, shaped, read_line}
 use Rattle.qpu_asm.specs.Laws.{IsProper}
+use Rattle.std.proofs.lemmas.List.Elements.{All-cons}
+use Rattle.qpu_asm.specs.Placed.{Labels, placed}
+use Rattle.qpu_asm.proofs.ProperTokens.{placed_proper}
 use Rattle.qpu_asm.proofs.MarkLemmas.{Has, has_left, has_right, Before, before_join, before_left, IsClear, is_clear}
-use Rattle.qpu_asm.proofs.ProperParts.{Each, GoodUnit, GoodPart, Good, Gives, gives_on, gives_ended}
+use Rattle.qpu_asm.proofs.ProperParts.{Each, GoodUnit, GoodPart, Good, Gives, gives_on}
 use Rattle.qpu_asm.proofs.ProperLines.{all_good, has_second, FitsAdd, IsOrdered, GoodParts, line_good}
 use Rattle.qpu_asm.proofs.GrowLemmas.{grows_part, later_marks, grows_later}
 use Rattle.qpu_asm.proofs.ShortLaws.{increments_have_words, decrements_have_words, loads_have_words, branches_have_words}
-use Rattle.qpu_asm.proofs.UnitMarks.{UnitSaid, unit_said, AddSaid, add_said, MulSaid, mul_said}
-use Rattle.qpu_asm.proofs.ExtraMarks.{signal_told, is_turn, turn_there, other_a_told, other_b_told}
+use Rattle.qpu_asm.proofs.UnitMarks.{unit_said, AddSaid, add_said, MulSaid, mul_said}
+use Rattle.qpu_asm.proofs.ExtraMarks.{signal_told, turn_there, other_a_told, other_b_told}
 use Rattle.qpu_asm.proofs.TargetLemmas.{cross_nowhere}
-use Rattle.qpu_asm.proofs.UnitsLaw.{IsLine, held, named}
+use Rattle.qpu_asm.proofs.UnitsLine.{IsLine}
+use Rattle.qpu_asm.proofs.UnitsLaw.{held, named}
 
 -- both units, by their parts and those behind them
 
@@ -336,3 +336,11 @@ line_has_word at end (x ∷ rest) good =
 
 pub lines_law : (at : ℕ) (end : Token) (xs : List Placed) (i : Instruction) → All IsProper xs → read_line at end xs ≡ Ok (Says i) → HasWord i
 lines_law at end xs i proper e = subst LineHasWord e (line_has_word at end xs (all_good xs proper))
+
+all_placed : (text : List ℕ) (labels : Labels) (tokens : List Token) → All IsProper (map (placed text labels) tokens)
+all_placed text labels [] = λ k d low. absurd (omega arith)
+all_placed text labels (t ∷ tokens) = All-cons IsProper (placed text labels t) (map (placed text labels) tokens) (placed_proper text labels t) (all_placed text labels tokens)
+
+pub text_lines_law : (text : List ℕ) (labels : Labels) (at : ℕ) (end : Token) (tokens : List Token) (i : Instruction)
+    → read_line at end (map (placed text labels) tokens) ≡ Ok (Says i) → HasWord i
+text_lines_law text labels at end tokens i e = lines_law at end (map (placed text labels) tokens) i (all_placed text labels tokens) e

@@ -1,18 +1,18 @@
 -- Marks in which no fault is found. No mark is wrong by itself, and none clashes with an earlier one.
-use Rattle.std.proofs.Common.{rules, ◌≡◌, ◌≢◌, ℕ, inl, inr, Bool, true, false, List, [], ◌∷◌, ◌++◌, Option, Some, None, refl, ap, sym, subst, ◌∙◌, arith}
+use Rattle.std.proofs.Common.{◌≡◌, ℕ, inl, inr, Bool, true, false, List, [], ◌∷◌, ◌++◌, Option, Some, None, refl, sym, subst, ◌∙◌, arith}
 use Rattle.std.specs.Prelude.{◌==◌, ◌&&◌, ◌||◌, not, ◌⊎◌, option_map, if◌then◌else◌}
 use Rattle.std.specs.Option.{option_or}
 use Rattle.std.specs.List.{list_any}
 use Rattle.std.proofs.lemmas.Bool.Decides.{nat_tests}
 use Rattle.qpu_token.specs.declared.token.Token.{Token}
-use Rattle.qpu_token.specs.declared.fault.AsmFault.{AsmFault}
 use Rattle.qpu_word.specs.declared.name.Place.{Place}
 use Rattle.qpu_asm.specs.declared.mark.What.{What}
 use Rattle.qpu_asm.specs.declared.mark.What.TheVariants as what
 use Rattle.qpu_asm.specs.declared.mark.Mark.{Mark}
 use Rattle.qpu_asm.specs.declared.judge.Judged.{Judged}
 use Rattle.qpu_asm.specs.declared.judge.Judged.TheVariants.{Operands, TwoImmediates, TwoReads, Label, Range}
-use Rattle.qpu_asm.specs.Judging.{is_wrong, cross, clashes, is_faulty, first_faulty, kind_of, fault_at, fault_of_kind, line_fault}
+use Rattle.qpu_asm.specs.Judging.{is_wrong, cross, clashes, first_faulty, kind_of, fault_at, fault_of_kind, line_fault}
+use Rattle.qpu_asm.proofs.TestLemmas.{either_false}
 
 -- marks among others
 
@@ -79,14 +79,10 @@ free_own k earlier [] w none never = absurd never
 free_own k earlier (m ∷ ms) w none (inl is) = let P : What → Type 0 = λ v. is_wrong k v ≡ false in subst P is (free_first k earlier ms m none).own
 free_own k earlier (m ∷ ms) w none (inr later) = free_own k (earlier ++ m ∷ []) ms w (free_first k earlier ms m none).later later
 
-none_either : (x y : Bool) → (x || y) ≡ false → (x ≡ false) × (y ≡ false)
-none_either true y none = absurd (grind (arith, none))
-none_either false y none = (refl, none)
-
 none_of : (p : What → Bool) (earlier : List Mark) (a : What) → list_any (λ e. p e.what) earlier ≡ false → Has a earlier → p a ≡ false
 none_of p [] a none never = absurd never
-none_of p (e ∷ earlier) a none (inl is) = let P : What → Type 0 = λ v. p v ≡ false in subst P is (none_either (p e.what) (list_any (λ x. p x.what) earlier) none).0
-none_of p (e ∷ earlier) a none (inr later) = none_of p earlier a (none_either (p e.what) (list_any (λ x. p x.what) earlier) none).1 later
+none_of p (e ∷ earlier) a none (inl is) = let P : What → Type 0 = λ v. p v ≡ false in subst P is (either_false (p e.what) (list_any (λ x. p x.what) earlier) none).0
+none_of p (e ∷ earlier) a none (inr later) = none_of p earlier a (either_false (p e.what) (list_any (λ x. p x.what) earlier) none).1 later
 
 free_across : (k : Judged) (earlier ms : List Mark) (a b : What) → first_faulty k earlier ms ≡ None → Has a earlier → Has b ms → clashes k a b ≡ false
 free_across k earlier [] a b none first never = absurd never

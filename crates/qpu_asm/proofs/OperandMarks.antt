@@ -1,6 +1,6 @@
 -- Operands of a line in which no fault is found: each is one that a line can name, and is among the line's marks.
-use Rattle.std.proofs.Common.{rules, ◌≡◌, ℕ, zero, suc, ◌+◌, ◌<◌, ◌≤◌, inl, inr, Bool, true, false, List, [], ◌∷◌, ◌++◌, Option, Some, None, refl, ap, sym, subst, ◌∙◌, arith}
-use Rattle.std.specs.Prelude.{◌==◌, ◌&&◌, ◌||◌, not, nat_lt, nat_le, find, IfSome, is_none, is_some, unwrap_or, if◌then◌else◌}
+use Rattle.std.proofs.Common.{◌≡◌, ℕ, zero, suc, ◌+◌, ◌<◌, inl, inr, Bool, true, false, List, [], Option, Some, None, refl, arith}
+use Rattle.std.specs.Prelude.{◌==◌, ◌&&◌, nat_lt, find, IfSome, is_none, unwrap_or, if◌then◌else◌}
 use Rattle.std.specs.List.{range_with_len}
 use Rattle.std.proofs.lemmas.Bool.Decides.{nat_tests}
 use Rattle.qpu_token.specs.declared.token.Token.{Token}
@@ -17,14 +17,14 @@ use Rattle.qpu_asm.specs.declared.piece.Piece.{Piece}
 use Rattle.qpu_asm.specs.declared.mark.What.{What}
 use Rattle.qpu_asm.specs.declared.mark.What.TheVariants as what
 use Rattle.qpu_asm.specs.declared.mark.Mark.{Mark}
-use Rattle.qpu_asm.specs.Roles.{source_of, unpack_of}
-use Rattle.qpu_asm.specs.Marks.{mark, mark_if, code_of, fixed, no_suffix, unpack_name, unpack_mark, unpack_marks, source_marks, number_marks, operand_marks}
-use Rattle.qpu_asm.specs.Meanings.{with_unpack, unpack_in, operand_of_core, operand_of}
-use Rattle.qpu_asm.proofs.GoodNames.{is_good, IsPlain, source_good, unpack_good}
+use Rattle.qpu_asm.specs.Roles.{source_of}
+use Rattle.qpu_asm.specs.Marks.{mark, mark_if, code_of, fixed, no_suffix, unpack_name, unpack_mark, unpack_marks, source_marks, operand_marks}
+use Rattle.qpu_asm.specs.Meanings.{with_unpack, unpack_in, operand_of}
+use Rattle.qpu_asm.proofs.GoodNames.{IsPlain, source_good, unpack_good}
 use Rattle.qpu_asm.proofs.MarkLemmas.{Has, has_left, has_right}
 use Rattle.qpu_asm.proofs.ProperParts.{GoodCore, GoodName, GoodSuffix, GoodPiece}
-use Rattle.qpu_asm.proofs.GrowLemmas.{grown_old, grown_new, grows_mark_if, piece}
-use Rattle.qpu_asm.proofs.TargetLemmas.{or_else}
+use Rattle.qpu_asm.proofs.GrowLemmas.{grown_old, grows_mark_if, piece}
+use Rattle.qpu_asm.proofs.TestLemmas.{or_true}
 
 -- what an operand reads is among the marks
 abbrev pub Marked : List Mark → Operand → Type 0
@@ -88,11 +88,7 @@ unpack_named None good = tt
 unpack_named (Some n) good = unpack_good n good
 
 unpack_fits : (n mode : ℕ) → nat_lt n 32 ≡ true → between 1 mode 7 ≡ true → is_unpack_at n mode ≡ true
-unpack_fits n mode row is = rw (row, is) (last (mode == 0))
-  where
-    last : (b : Bool) → (b || true) ≡ true
-    last true = refl
-    last false = refl
+unpack_fits n mode row is = rw (row, is) (or_true (mode == 0))
 
 -- what unpacks a read of file A
 record IsUnpacked (n unpack : ℕ) (U : List Mark) : Type 0 where

@@ -1,27 +1,25 @@
 -- The parts of a line whose names are the language's, and which of them follow which.
-use Rattle.std.proofs.Common.{rules, ◌≡◌, ℕ, zero, suc, ◌+◌, ◌<◌, inl, inr, Bool, true, false, List, [], ◌∷◌, ◌++◌, length, fold, Option, Some, None, Result, Ok, Err, refl, ap, sym, subst, ◌∙◌, arith}
-use Rattle.std.specs.Prelude.{◌==◌, ◌&&◌, ◌||◌, not, All, is_some, ◌⊎◌, if◌then◌else◌}
+use Rattle.std.proofs.Common.{◌≡◌, suc, inl, inr, Bool, true, false, List, [], ◌∷◌, ◌++◌, fold, None, Result, Ok, Err, refl, sym, ◌∙◌, arith}
+use Rattle.std.specs.Prelude.{◌&&◌, ◌||◌, not, All, is_some, ◌⊎◌, if◌then◌else◌}
 use Rattle.std.specs.List.{list_any}
-use Rattle.std.proofs.lemmas.Bool.Decides.{nat_tests}
 use Rattle.qpu_token.specs.declared.token.Token.{Token}
 use Rattle.qpu_line.specs.declared.name.Name.{Name}
 use Rattle.qpu_line.specs.declared.name.Name.TheVariants as name
 use Rattle.qpu_line.specs.declared.symbol.Symbol.{Symbol}
 use Rattle.qpu_line.specs.declared.symbol.Symbol.TheVariants as symbol
 use Rattle.qpu_asm.specs.declared.placed.Placed.{Placed}
-use Rattle.qpu_asm.specs.declared.part.UnitPart.{UnitPart}
 use Rattle.qpu_asm.specs.declared.part.BranchPart.{BranchPart}
 use Rattle.qpu_asm.specs.declared.part.Part.{Part}
 use Rattle.qpu_asm.specs.declared.part.Part.TheVariants as part
 use Rattle.qpu_asm.specs.Roles.{op_in_add, op_in_mul}
-use Rattle.qpu_asm.specs.Reading.{go_on}
 use Rattle.qpu_asm.specs.Parts.{part_by}
-use Rattle.qpu_asm.specs.Orders.{begins, is_nop, is_unit, is_rotation, is_empty, extra, second, unit_follows, load_follows, branch_follows, follows, due}
+use Rattle.qpu_asm.specs.Orders.{begins, is_nop, is_unit, is_rotation, is_empty, extra, unit_follows, load_follows, branch_follows, follows, due}
 use Rattle.qpu_asm.specs.SectionTokens.{SectionTokens}
 use Rattle.qpu_asm.specs.Sections.{is_semicolon, Cutting, nothing_cut, put_section, cut_on, sections_of, part_after_symbol, part_after, parts_on, parts_of}
 use Rattle.qpu_asm.specs.Laws.{IsProperSymbol, IsProper}
-use Rattle.qpu_asm.proofs.GoodNames.{is_good, name_good}
-use Rattle.qpu_asm.proofs.ProperParts.{Each, each_append, GoodPart, GoodSymbol, GoodPlaced, Good, Gives, gives_on, is_op, is_rotate, HasOp, IsMade, part_good}
+use Rattle.qpu_asm.proofs.GoodNames.{name_good}
+use Rattle.qpu_asm.proofs.ProperParts.{Each, each_append, GoodPart, GoodSymbol, GoodPlaced, Good, Gives, gives_on, is_op, is_rotate, IsMade, part_good}
+use Rattle.qpu_asm.proofs.TestLemmas.{both_true}
 
 -- tokens
 
@@ -125,11 +123,7 @@ no_nop name.Nop is = absurd (grind (arith, is))
 no_nop _ is = refl
 
 turn_extra : (later : List Part) (n : Name) → is_rotate n ≡ true → extra later n ≡ true → list_any is_unit later ≡ true
-turn_extra later name.Rotate is more = both (list_any is_unit later) (not (list_any is_rotation later)) more
-  where
-    both : (a b : Bool) → (a && b) ≡ true → a ≡ true
-    both true b e = refl
-    both false b e = absurd (grind (arith, e))
+turn_extra later name.Rotate is more = (both_true (list_any is_unit later) (not (list_any is_rotation later)) more).0
 turn_extra later _ is more = absurd (grind (arith, is))
 
 no_turn : (n : Name) → is_rotate n ≡ true → (op_in_mul n ≡ None) × (is_nop n ≡ false)

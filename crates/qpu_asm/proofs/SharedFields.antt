@@ -1,21 +1,21 @@
 -- Fields of a word that several operands share, where no two of them clash: each operand finds there what it names.
-use Rattle.std.proofs.Common.{rules, ◌≡◌, ℕ, ◌+◌, ◌<◌, inl, inr, Bool, true, false, List, [], ◌∷◌, ◌++◌, Option, Some, None, refl, ap, sym, subst, ◌∙◌, arith}
-use Rattle.std.specs.Prelude.{◌==◌, ◌&&◌, ◌||◌, not, nat_lt, nat_le, ◌⊎◌, IfSome, is_some, if◌then◌else◌}
+use Rattle.std.proofs.Common.{◌≡◌, ℕ, ◌<◌, inl, inr, Bool, true, false, List, Option, Some, None, refl, sym, subst, ◌∙◌, arith}
+use Rattle.std.specs.Prelude.{◌==◌, ◌||◌, ◌⊎◌, IfSome, is_some}
 use Rattle.std.proofs.lemmas.Bool.Decides.{nat_tests}
 use Rattle.qpu_line.specs.declared.operand.Operand.{Operand}
 use Rattle.qpu_line.specs.declared.operand.Operand.TheVariants as operand
 use Rattle.qpu_line.specs.declared.part.Part.{Part as UnitDoes}
 use Rattle.qpu_line.specs.declared.units.Units.{Units}
-use Rattle.qpu_line.specs.Units.{mux_of, row_a, unpack_of, row_b, small_signal, over, over_units, fields_of_units}
+use Rattle.qpu_line.specs.Units.{mux_of, row_a, unpack_of, row_b, small_signal, over, fields_of_units}
 use Rattle.qpu_line.specs.Both.{IsOperand}
 use Rattle.qpu_line.specs.Named.{IsNamedOperand}
-use Rattle.qpu_asm.specs.declared.mark.What.{What}
 use Rattle.qpu_asm.specs.declared.mark.What.TheVariants as what
 use Rattle.qpu_asm.specs.declared.mark.Mark.{Mark}
 use Rattle.qpu_asm.specs.Marks.{code_of}
 use Rattle.qpu_asm.specs.Meanings.{address_a, address_b, reads_by}
 use Rattle.qpu_asm.proofs.MarkLemmas.{Has, IsClear}
 use Rattle.qpu_asm.proofs.OperandMarks.{Marked}
+use Rattle.qpu_asm.proofs.TestLemmas.{either_false, either_by}
 
 -- the operands of a unit that may be idle
 
@@ -106,7 +106,7 @@ keep_code U v c clear has is (operand.Small d) marked r e = same_code marked.0 v
 keep_code U v c clear has is (operand.Accumulator m) marked r e = e
 keep_code U v c clear has is (operand.FileA m w) marked r e = e
 
-keep_small : (y : Operand) → Keeps small_signal (λ x. (x == 13) ≡ true) y
+pub keep_small : (y : Operand) → Keeps small_signal (λ x. (x == 13) ≡ true) y
 keep_small (operand.Small code) r e = refl
 keep_small (operand.Accumulator m) r e = e
 keep_small (operand.FileA m v) r e = e
@@ -229,10 +229,6 @@ abbrev pub uses : Option UnitDoes → ℕ → Bool
 uses None mux = false
 uses (Some p) mux = (mux_of p.a == mux) || (mux_of p.b == mux)
 
-either_false : (a b : Bool) → (a || b) ≡ false → (a ≡ false) × (b ≡ false)
-either_false true b e = absurd (grind (arith, e))
-either_false false b e = (refl, e)
-
 unused_row_a : (y : Operand) → (mux_of y == 6) ≡ false → IsNone row_a y
 unused_row_a (operand.FileA n v) other r = absurd (grind (arith, other))
 unused_row_a (operand.Accumulator n) other r = refl
@@ -272,12 +268,6 @@ b_by_mux (operand.FileB n) some = refl
 b_by_mux (operand.Accumulator n) some = absurd (grind (arith, some))
 b_by_mux (operand.FileA n v) some = absurd (grind (arith, some))
 b_by_mux (operand.Small code) some = refl
-
-either_by : (a b c d : Bool) → (a ≡ true → c ≡ true) → (b ≡ true → d ≡ true) → (a || b) ≡ true → (c || d) ≡ true
-either_by true b c d f g e = rw (f refl) refl
-either_by false true true d f g e = refl
-either_by false true false d f g e = g refl
-either_by false false c d f g e = absurd (grind (arith, e))
 
 pub reads_b_uses : (o : Option UnitDoes) → reads_by address_b o ≡ true → uses o 7 ≡ true
 reads_b_uses None some = some

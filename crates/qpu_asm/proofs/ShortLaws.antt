@@ -1,20 +1,15 @@
 -- What lines of loads, branches and semaphores say has a canonical word.
-use Rattle.std.proofs.Common.{rules, ◌≡◌, ℕ, zero, suc, ◌+◌, ◌<◌, inl, inr, Bool, true, false, List, [], ◌∷◌, ◌++◌, fold, Option, Some, None, refl, ap, sym, subst, ◌∙◌, arith}
-use Rattle.std.specs.Prelude.{◌==◌, ◌&&◌, ◌||◌, ◌%◌, ◌*◌, ◌-◌, ◌^◌, not, nat_lt, nat_le, IfSome, unwrap_or, if◌then◌else◌}
-use Rattle.std.specs.Option.{option_or}
+use Rattle.std.proofs.Common.{◌≡◌, ℕ, ◌+◌, ◌<◌, inl, Bool, true, false, List, [], ◌∷◌, Option, Some, None, refl, arith}
+use Rattle.std.specs.Prelude.{◌==◌, ◌&&◌, ◌%◌, ◌*◌, ◌-◌, ◌^◌, not, nat_le, IfSome, if◌then◌else◌}
 use Rattle.std.proofs.lemmas.Bool.Decides.{nat_tests}
 use Rattle.qpu_token.specs.declared.token.Token.{Token}
 use Rattle.qpu_word.specs.declared.name.Place.{Place}
-use Rattle.qpu_word.specs.declared.name.Place.TheVariants as place
-use Rattle.qpu_word.specs.Words.{is_write_address, is_link_address, between}
+use Rattle.qpu_word.specs.Words.{is_link_address, between}
 use Rattle.qpu_line.specs.declared.name.Name.{Name}
 use Rattle.qpu_line.specs.declared.name.Name.TheVariants as name
 use Rattle.qpu_line.specs.declared.name.Register.{Register}
 use Rattle.qpu_line.specs.declared.name.Register.TheVariants as register
-use Rattle.qpu_line.specs.declared.load.Load.{Load}
 use Rattle.qpu_line.specs.declared.load.Write.{Write}
-use Rattle.qpu_line.specs.declared.branch.Branch.{Branch}
-use Rattle.qpu_line.specs.declared.semaphore.Semaphore.{Semaphore}
 use Rattle.qpu_line.specs.Targets.{address_of}
 use Rattle.qpu_line.specs.Loads.{write_target}
 use Rattle.qpu_line.specs.Worded.{IsSemaphore, IsWrite, IsLoad, IsBranch}
@@ -23,7 +18,6 @@ use Rattle.qpu_asm.specs.declared.piece.Core.TheVariants as core
 use Rattle.qpu_asm.specs.declared.piece.Suffix.{Suffix}
 use Rattle.qpu_asm.specs.declared.piece.Piece.{Piece}
 use Rattle.qpu_asm.specs.declared.part.LoadPart.{LoadPart}
-use Rattle.qpu_asm.specs.declared.part.AlsoPart.{AlsoPart}
 use Rattle.qpu_asm.specs.declared.part.BranchPart.{BranchPart}
 use Rattle.qpu_asm.specs.declared.part.Part.{Part}
 use Rattle.qpu_asm.specs.declared.part.Part.TheVariants as part
@@ -32,12 +26,13 @@ use Rattle.qpu_asm.specs.declared.mark.What.TheVariants as what
 use Rattle.qpu_asm.specs.declared.mark.Mark.{Mark}
 use Rattle.qpu_asm.specs.Marks.{mark_if, suffix_marks, condition_marks, branch_marks, target_place, place_mark, somewhere, if_link, any_number, number_between, load_marks, also_marks, jump_marks, jumping_marks, part_marks, marks_of}
 use Rattle.qpu_asm.specs.Judging.{cross}
-use Rattle.qpu_asm.specs.Meanings.{condition_in, branch_condition_in, nowhere, place_of, is_nowhere, number_of, first_told, write_in, also_in, load_of_part, distance, behind_slots, row_of, row_part, link_in, branch_of_part, step}
+use Rattle.qpu_asm.specs.Meanings.{condition_in, nowhere, place_of, is_nowhere, number_of, first_told, write_in, also_in, load_of_part, distance, behind_slots, row_of, row_part, link_in, branch_of_part, step}
 use Rattle.qpu_asm.proofs.GoodNames.{is_placed, is_good}
 use Rattle.qpu_asm.proofs.MarkLemmas.{Has, has_left, has_right, Before, before_join, IsClear}
-use Rattle.qpu_asm.proofs.ProperParts.{Each, GoodCore, GoodSuffix, GoodPiece, GoodLoad, GoodAlso, GoodBranch, GoodPart}
-use Rattle.qpu_asm.proofs.GrowLemmas.{Marking, grown_old, grown_new, grows_place, grows_load, grows_also, grows_jumping, grows_any, grows_jump, piece, later_marks, grows_later, later_first, later_rest}
+use Rattle.qpu_asm.proofs.ProperParts.{Each, GoodCore, GoodSuffix, GoodLoad, GoodBranch, GoodPart}
+use Rattle.qpu_asm.proofs.GrowLemmas.{Marking, grown_old, grown_new, grows_place, grows_any, grows_jump, piece, later_marks, grows_later, later_first, later_rest}
 use Rattle.qpu_asm.proofs.TargetLemmas.{condition_fits, branch_fits, placed_fits, written_address, place_told, second_told, IsLink, link_told, second_link_told, TargetsFit, targets_fit, cross_nowhere}
+use Rattle.qpu_asm.proofs.TestLemmas.{some_or}
 
 -- the first part's marks stand before the later ones
 
@@ -203,10 +198,6 @@ row_low (core.Label at) good = tt
 row_in_part : (p : Part) → GoodPart p → IfSome (row_part p) IsRow
 row_in_part (part.Row p) good = row_low p.core good.core
 row_in_part _ good = tt
-
-some_or : (P : ℕ → Type 0) (a b : Option ℕ) → IfSome a P → IfSome b P → IfSome (option_or a b) P
-some_or P None b one other = other
-some_or P (Some n) b one other = one
 
 rows_low : (later : List Part) → Each GoodPart later → IfSome (first_told row_part later) IsRow
 rows_low [] good = tt

@@ -1,7 +1,7 @@
 -- Targets of a line in which no fault is found go into a word: what they are, and that two of them want one order
 -- of the files.
-use Rattle.std.proofs.Common.{rules, ◌≡◌, ℕ, ◌<◌, inl, inr, Bool, true, false, List, [], ◌∷◌, ◌++◌, Option, Some, None, refl, ap, sym, subst, ◌∙◌, arith}
-use Rattle.std.specs.Prelude.{◌==◌, ◌&&◌, ◌||◌, not, IfSome, unwrap_or, if◌then◌else◌}
+use Rattle.std.proofs.Common.{◌≡◌, ℕ, ◌<◌, inl, Bool, true, false, List, [], Option, Some, None, refl, arith}
+use Rattle.std.specs.Prelude.{◌==◌, not, IfSome, unwrap_or, if◌then◌else◌}
 use Rattle.std.proofs.lemmas.Bool.Decides.{nat_tests}
 use Rattle.qpu_token.specs.declared.token.Token.{Token}
 use Rattle.qpu_word.specs.declared.name.Place.{Place}
@@ -9,7 +9,7 @@ use Rattle.qpu_word.specs.declared.name.Place.TheVariants as place
 use Rattle.qpu_word.specs.Words.{is_write_address, is_link_address, between}
 use Rattle.qpu_word.specs.Canonical.{file_matters}
 use Rattle.qpu_line.specs.declared.name.Name.{Name}
-use Rattle.qpu_line.specs.Targets.{target_of, address_of, in_file_a, in_file_b, exchange_of}
+use Rattle.qpu_line.specs.Targets.{target_of, address_of, exchange_of}
 use Rattle.qpu_line.specs.Worded.{IsTarget}
 use Rattle.qpu_asm.specs.declared.piece.Core.{Core}
 use Rattle.qpu_asm.specs.declared.piece.Core.TheVariants as core
@@ -21,9 +21,10 @@ use Rattle.qpu_asm.specs.Roles.{target_of as named_target}
 use Rattle.qpu_asm.specs.Marks.{target_place, place_mark, somewhere, if_link}
 use Rattle.qpu_asm.specs.Judging.{cross}
 use Rattle.qpu_asm.specs.Meanings.{condition_of, condition_in, branch_condition_of, branch_condition_in, nowhere, place_of}
-use Rattle.qpu_asm.proofs.GoodNames.{is_placed, target_good, is_good, condition_good, branch_condition_good}
+use Rattle.qpu_asm.proofs.GoodNames.{is_placed, target_good, condition_good, branch_condition_good}
 use Rattle.qpu_asm.proofs.MarkLemmas.{Has}
 use Rattle.qpu_asm.proofs.ProperParts.{GoodCore, GoodName, GoodSuffix}
+use Rattle.qpu_asm.proofs.TestLemmas.{both_true}
 
 -- a value or what stands for none
 pub or_else : {A : Type 0} (P : A → Type 0) (o : Option A) (d : A) → IfSome o P → P d → P (unwrap_or o d)
@@ -73,10 +74,6 @@ place_good (core.Label at) good = tt
 
 pub placed_fits : (c : Core) → GoodCore c → is_placed (place_of c) ≡ true
 placed_fits c good = or_else IsPlaced (target_place c) nowhere (place_good c good) refl
-
-both_true : (a b : Bool) → (a && b) ≡ true → (a ≡ true) × (b ≡ true)
-both_true true b e = (refl, e)
-both_true false b e = absurd (grind (arith, e))
 
 pub written_address : (p : Place) → is_placed p ≡ true → is_write_address (address_of p) ≡ true
 written_address (place.Both a) placed = (both_true (is_write_address a) (not (file_matters a)) placed).0

@@ -1,6 +1,6 @@
 -- What a unit's part says, in a line in which no fault is found.
-use Rattle.std.proofs.Common.{rules, ◌≡◌, ℕ, ◌+◌, ◌<◌, inl, inr, Bool, true, false, List, [], ◌∷◌, ◌++◌, Option, Some, None, refl, ap, sym, subst, ◌∙◌, arith}
-use Rattle.std.specs.Prelude.{◌==◌, ◌&&◌, ◌||◌, not, nat_lt, nat_le, IfSome, IsSome, is_some, unwrap_or, if◌then◌else◌}
+use Rattle.std.proofs.Common.{◌≡◌, ℕ, ◌<◌, inl, Bool, true, false, List, [], Option, Some, None, refl, ap, arith}
+use Rattle.std.specs.Prelude.{◌==◌, ◌&&◌, ◌||◌, not, IfSome, IsSome, is_some, unwrap_or, if◌then◌else◌}
 use Rattle.std.proofs.lemmas.Bool.Decides.{nat_tests}
 use Rattle.qpu_token.specs.declared.token.Token.{Token}
 use Rattle.qpu_word.specs.declared.operation.AddOp.{AddOp}
@@ -8,17 +8,13 @@ use Rattle.qpu_word.specs.declared.operation.AddOp.TheVariants as add
 use Rattle.qpu_word.specs.declared.operation.MulOp.{MulOp}
 use Rattle.qpu_word.specs.declared.operation.MulOp.TheVariants as mulop
 use Rattle.qpu_word.specs.declared.name.Place.{Place}
-use Rattle.qpu_word.specs.Words.{between, is_unary, is_write_address}
+use Rattle.qpu_word.specs.Words.{between, is_unary}
 use Rattle.qpu_word.specs.Operations.{add_op, mul_op}
-use Rattle.qpu_line.specs.declared.operand.Operand.{Operand}
 use Rattle.qpu_line.specs.declared.part.Part.{Part as UnitDoes}
 use Rattle.qpu_line.specs.declared.name.Name.{Name}
 use Rattle.qpu_line.specs.declared.name.Name.TheVariants as name
-use Rattle.qpu_line.specs.Targets.{address_of, is_row_a}
 use Rattle.qpu_line.specs.Named.{is_pack_at, IsNamedPart, IsAddPart, IsMulPart}
-use Rattle.qpu_asm.specs.declared.piece.Core.{Core}
 use Rattle.qpu_asm.specs.declared.piece.Suffix.{Suffix}
-use Rattle.qpu_asm.specs.declared.piece.Piece.{Piece}
 use Rattle.qpu_asm.specs.declared.part.UnitPart.{UnitPart}
 use Rattle.qpu_asm.specs.declared.mark.What.{What}
 use Rattle.qpu_asm.specs.declared.mark.What.TheVariants as what
@@ -27,20 +23,17 @@ use Rattle.qpu_asm.specs.Roles.{add_code, mul_code, op_in_add, op_in_mul, takes_
 use Rattle.qpu_asm.specs.Marks.{mark_if, suffix_marks, target_place, place_mark, is_pack, is_row, pack_marks, target_marks, operand_marks, unit_marks}
 use Rattle.qpu_asm.specs.Meanings.{condition_in, pack_name, pack_in, nowhere, place_of, is_nowhere, operand_of, condition_at, unit_of}
 use Rattle.qpu_asm.proofs.GoodNames.{is_placed, is_pack as is_pack_mode, pack_good}
-use Rattle.qpu_asm.proofs.MarkLemmas.{Has, has_left, has_right}
-use Rattle.qpu_asm.proofs.ProperParts.{GoodName, GoodSuffix, GoodPiece, GoodUnit}
-use Rattle.qpu_asm.proofs.GrowLemmas.{Marking, grown_old, grown_new, grows_place, grows_pack, grows_target, grows_operand}
-use Rattle.qpu_asm.proofs.TargetLemmas.{or_else, condition_fits, placed_fits, written_address, place_told}
-use Rattle.qpu_asm.proofs.OperandMarks.{Marked, IsSaid, operand_said}
+use Rattle.qpu_asm.proofs.MarkLemmas.{Has, has_right}
+use Rattle.qpu_asm.proofs.ProperParts.{GoodName, GoodSuffix, GoodUnit}
+use Rattle.qpu_asm.proofs.GrowLemmas.{Marking, grown_old, grown_new, grows_place, grows_pack, grows_operand}
+use Rattle.qpu_asm.proofs.TargetLemmas.{condition_fits, placed_fits, written_address, place_told}
+use Rattle.qpu_asm.proofs.OperandMarks.{IsSaid, operand_said}
+use Rattle.qpu_asm.proofs.TestLemmas.{never, both_true, or_true}
 
 -- packs
 
 record IsPacked (to : Place) (pack : ℕ) : Type 0 where
   fits : is_pack_at to pack ≡ true
-
-both_true : (a b : Bool) → (a && b) ≡ true → (a ≡ true) × (b ≡ true)
-both_true true b e = (refl, e)
-both_true false b e = absurd (grind (arith, e))
 
 pack_mode : (n : Option Name) → GoodName n → is_pack n ≡ true → is_pack_mode (unwrap_or (pack_name n) 0) ≡ true
 pack_mode None good is = absurd (grind (arith, is))
@@ -50,13 +43,9 @@ pack_mode (Some n) good is = some (pack_of n) (pack_good n good) is
     some None fits there = absurd (grind (arith, there))
     some (Some mode) fits there = fits
 
-last : (b : Bool) → (b || true) ≡ true
-last true = refl
-last false = refl
-
 pack_at_row : (to : Option Place) (pack : ℕ) → is_row to ≡ true → is_pack_mode pack ≡ true → is_pack_at (unwrap_or to nowhere) pack ≡ true
 pack_at_row None pack row mode = absurd (grind (arith, row))
-pack_at_row (Some p) pack row mode = rw (row, mode) (last (pack == 0))
+pack_at_row (Some p) pack row mode = rw (row, mode) (or_true (pack == 0))
 
 pack_by : (to : Option Place) (s : Suffix) (b : Bool) (token : Token) (ms U : List Mark) → (is_row to && is_pack s.name) ≡ b → GoodName s.name
     → ((w : What) → Has w (mark_if (not b) what.Wrong token ms) → Has w U) → (Has what.Wrong U → ⊥) → is_pack_at (unwrap_or to nowhere) (pack_in (Some s)) ≡ true
@@ -130,26 +119,23 @@ record AddFits (n : Name) (code : ℕ) : Type 0 where
   low : code < 32
   one : is_unary code ≡ true → takes_one n ≡ true
 
-no : (P : Type 0) → false ≡ true → P
-no P e = absurd (grind (arith, e))
-
 add_op_fits : (op : AddOp) → AddFits (name.Add op) (add_code op)
 unfolding add_op
-add_op_fits add.Add = record { op = refl; some = refl; low = omega arith; one = λ e. no _ e }
-add_op_fits add.Sub = record { op = refl; some = refl; low = omega arith; one = λ e. no _ e }
-add_op_fits add.Shr = record { op = refl; some = refl; low = omega arith; one = λ e. no _ e }
-add_op_fits add.Asr = record { op = refl; some = refl; low = omega arith; one = λ e. no _ e }
-add_op_fits add.Ror = record { op = refl; some = refl; low = omega arith; one = λ e. no _ e }
-add_op_fits add.Shl = record { op = refl; some = refl; low = omega arith; one = λ e. no _ e }
-add_op_fits add.Min = record { op = refl; some = refl; low = omega arith; one = λ e. no _ e }
-add_op_fits add.Max = record { op = refl; some = refl; low = omega arith; one = λ e. no _ e }
-add_op_fits add.And = record { op = refl; some = refl; low = omega arith; one = λ e. no _ e }
-add_op_fits add.Or = record { op = refl; some = refl; low = omega arith; one = λ e. no _ e }
-add_op_fits add.Xor = record { op = refl; some = refl; low = omega arith; one = λ e. no _ e }
+add_op_fits add.Add = record { op = refl; some = refl; low = omega arith; one = λ e. never _ e }
+add_op_fits add.Sub = record { op = refl; some = refl; low = omega arith; one = λ e. never _ e }
+add_op_fits add.Shr = record { op = refl; some = refl; low = omega arith; one = λ e. never _ e }
+add_op_fits add.Asr = record { op = refl; some = refl; low = omega arith; one = λ e. never _ e }
+add_op_fits add.Ror = record { op = refl; some = refl; low = omega arith; one = λ e. never _ e }
+add_op_fits add.Shl = record { op = refl; some = refl; low = omega arith; one = λ e. never _ e }
+add_op_fits add.Min = record { op = refl; some = refl; low = omega arith; one = λ e. never _ e }
+add_op_fits add.Max = record { op = refl; some = refl; low = omega arith; one = λ e. never _ e }
+add_op_fits add.And = record { op = refl; some = refl; low = omega arith; one = λ e. never _ e }
+add_op_fits add.Or = record { op = refl; some = refl; low = omega arith; one = λ e. never _ e }
+add_op_fits add.Xor = record { op = refl; some = refl; low = omega arith; one = λ e. never _ e }
 add_op_fits add.Not = record { op = refl; some = refl; low = omega arith; one = λ e. refl }
 add_op_fits add.Clz = record { op = refl; some = refl; low = omega arith; one = λ e. refl }
-add_op_fits add.V8adds = record { op = refl; some = refl; low = omega arith; one = λ e. no _ e }
-add_op_fits add.V8subs = record { op = refl; some = refl; low = omega arith; one = λ e. no _ e }
+add_op_fits add.V8adds = record { op = refl; some = refl; low = omega arith; one = λ e. never _ e }
+add_op_fits add.V8subs = record { op = refl; some = refl; low = omega arith; one = λ e. never _ e }
 
 add_fits : (n : Name) → is_some (op_in_add n) ≡ true → AddFits n (unwrap_or (op_in_add n) 0)
 unfolding add_op

@@ -1,5 +1,5 @@
 //! Laws of lines. Each is a function without a body; its clause is the law.
-ghost use Rattle.std.specs.Prelude.{◌≡◌, ◌↔◌, ℕ, List, Ok, All};
+ghost use Rattle.std.specs.Prelude.{◌≡◌, ◌↔◌, ℕ, List, Ok, All, map};
 ghost use Rattle.qpu_token.specs.declared.token.Token.{Token as TokenOf};
 ghost use Rattle.qpu_line.specs.declared.instruction.Instruction.{Instruction as InstructionOf};
 ghost use Rattle.qpu_line.specs.Named.{HasWord};
@@ -18,6 +18,12 @@ pub fn placed_tokens_are_proper()
 /// What a line says has a canonical word.
 pub fn lines_have_words()
     ensures { (at : ℕ) (end : TokenOf) (xs : List PlacedOf) (i : InstructionOf) → All IsProper xs → read_line at end xs ≡ Ok (Says i) → HasWord i }
+{}
+
+/// So what a line of a text says has one, whatever its tokens are.
+#[tactic(auto, using(crate::proofs::LineLaw::text_lines_law))]
+pub fn lines_of_texts_have_words()
+    ensures { (text : List ℕ) (labels : Labels) (at : ℕ) (end : TokenOf) (tokens : List TokenOf) (i : InstructionOf) → read_line at end (map (placed text labels) tokens) ≡ Ok (Says i) → HasWord i }
 {}
 
 /// A line's word stands as it is written exactly where the line is `.word` and a number.
