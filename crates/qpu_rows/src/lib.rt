@@ -8,6 +8,10 @@ mod asking;
 #[cfg(test)]
 mod assembler;
 #[cfg(test)]
+mod assembler_faults;
+#[cfg(test)]
+mod assembler_limits;
+#[cfg(test)]
 mod cuts;
 #[cfg(test)]
 mod hexadecimal;
