@@ -1,4 +1,4 @@
-use Rattle.std.proofs.Common.{◌<◌, ◌*◌, ◌+◌, ◌^◌, length, arith}
+use Rattle.std.proofs.Common.{length, arith}
 use Rattle.qpu_asm.proofs.HexLemmas.{digit_fits}
 use Rattle.qpu_asm.proofs.hex.value_of.Goals as goal
 
