@@ -4,8 +4,8 @@ use qpu_word::Word;
 use std::alloc::Global;
 use std::test::Fail;
 
-/// Bytes of the longest input of a command.
-const MOST_INPUT: usize = 8_388_608;
+/// How often 1 is doubled up to the bytes of the longest input of a command, 8,388,608.
+const DOUBLINGS: usize = 23;
 
 /// Words of the longest program.
 const MOST_WORDS: usize = 4_096;
@@ -27,9 +27,18 @@ fn repeated(alloc: Global, text: &str, times: usize) -> Result<String, Fail> {
     Ok(all)
 }
 
+/// A comment as long as the longest input of a command.
+fn long_comment(alloc: Global) -> Result<String, Fail> {
+    let mut text = String::from_str(alloc, "#")?;
+    for _ in 0..DOUBLINGS {
+        text = repeated(alloc, text.as_str(), 2)?;
+    }
+    Ok(text)
+}
+
 #[test]
 fn a_long_comment_has_no_word(rt: HostRuntime) -> Result<(), Fail> {
-    let text = repeated(rt.alloc(), "#", MOST_INPUT)?;
+    let text = long_comment(rt.alloc())?;
     let Ok(words) = answer(rt.alloc(), text.as_str()) else {
         return Err(Fail::from("a text of no words"));
     };
