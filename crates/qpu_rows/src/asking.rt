@@ -9,6 +9,9 @@ const ROOM: usize = 16384;
 /// The words of the run without workers.
 pub const RUN: [&str; 3] = ["run", "-w", "0"];
 
+/// The word of the assembler.
+pub const ASM: [&str; 1] = ["asm"];
+
 /// A job that is run, and what it gives.
 #[derive(Clone, Copy)]
 pub struct Row {

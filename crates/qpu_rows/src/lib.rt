@@ -6,6 +6,8 @@
 #[cfg(test)]
 mod asking;
 #[cfg(test)]
+mod asm_command;
+#[cfg(test)]
 mod assembler;
 #[cfg(test)]
 mod assembler_faults;

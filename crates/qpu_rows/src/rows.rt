@@ -26,7 +26,7 @@ fn words_of_one_processor_give_their_record_and_report(rt: HostRuntime) -> Resul
 #[test]
 fn other_words_are_no_command(rt: HostRuntime) -> Result<(), Fail> {
     let alloc = rt.alloc();
-    let rows: [&[&str]; 8] = [
+    let rows: [&[&str]; 10] = [
         &[],
         &["run"],
         &["run", "-w"],
@@ -35,6 +35,8 @@ fn other_words_are_no_command(rt: HostRuntime) -> Result<(), Fail> {
         &["run", "-w", "0", "0"],
         &["Run", "-w", "0"],
         &["run", "0", "-w"],
+        &["asm", "0"],
+        &["Asm"],
     ];
     for words in rows {
         let answer = answered(alloc, words, FIRST, &[], &[])?;

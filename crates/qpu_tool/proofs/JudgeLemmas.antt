@@ -23,7 +23,10 @@ use Rattle.qpu_job.specs.Opening.{Opens}
 use Rattle.qpu_tool.specs.declared.status.Status.{Status}
 use Rattle.qpu_tool.specs.Refusals.{is_high, name_at}
 use Rattle.qpu_tool.specs.Run.{FaithfulRun}
-use Rattle.qpu_tool.specs.Answers.{ran, run_answer, answered, Gives, Judged}
+use Rattle.qpu_tool.specs.declared.words.Command.TheVariants.{Run as RunIt}
+use Rattle.qpu_tool.specs.Answer.{Gives}
+use Rattle.qpu_tool.specs.RunAnswers.{ran, run_answer}
+use Rattle.qpu_tool.specs.Answers.{low, answered, Judged}
 
 -- bytes of which none is high are ASCII
 
@@ -65,7 +68,7 @@ fails_is fault.Memory due fails none = absurd (none refl)
 pub judged_run : (text : List ℕ) (plan : Plan) (machine : Started) (m : MachineState) (before after : List Run) (status : Status) (old new : Output)
     → position is_high text ≡ None → job_of text ≡ Ok plan → Opens plan machine → before ≡ []
     → Gained before after (λ s. SerialSchedule machine.state s m × IsRun machine.state s m) → IsFinal m
-    → Gives (run_answer text (steps_of after) m) old new status → Judged text old new status
+    → Gives (run_answer text (steps_of after) m) old new status → Judged RunIt text old new status
 judged_run text plan machine m before after status old new ascii job opens none gained stands gives =
     let same : gained.steps ≡ steps_of after = sym (gained.spells ∙ ap (λ (runs : List Run). steps_of runs ++ gained.steps) none) in
     let faithful : FaithfulRun plan (steps_of after) m = record {
@@ -77,13 +80,13 @@ judged_run text plan machine m before after status old new ascii job opens none 
       serial = subst (λ (n : MachineState). SerialSchedule n (steps_of after) m) opens.state
           (subst (λ (s : List Actor). SerialSchedule machine.state s m) same gained.holds.0);
     } in
-    answered (run_answer text (steps_of after) m) (ran plan (steps_of after) m ascii job faithful) gives
+    answered (run_answer text (steps_of after) m) (low (run_answer text (steps_of after) m) ascii (ran plan (steps_of after) m job faithful)) gives
 
 -- the name of a program of the list
 
 pub name_there : (programs : List ProgramText) (i : ℕ) (program d : ProgramText) → i < length programs → program ≡ get_or programs i d
     → string_bytes program.name ≡ name_at (map (λ (p : Program). p.name) (programs_of programs)) i
-name_there programs i program d low is =
+name_there programs i program d inside is =
     ap (λ (p : ProgramText). string_bytes p.name) is
     ∙ sym (get_or-map (λ (p : Program). p.name) (programs_of programs) i (program_of d) [] (omega (arith, length-map programs program_of))
-    ∙ ap (λ (p : Program). p.name) (get_or-map program_of programs i d (program_of d) low))
+    ∙ ap (λ (p : Program). p.name) (get_or-map program_of programs i d (program_of d) inside))

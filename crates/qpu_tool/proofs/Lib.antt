@@ -1,2 +1,8 @@
+pub mod CommandLemmas
 pub mod JudgeLemmas
+pub mod WordLemmas
+pub mod RunLemmas
+pub mod OneAssembly
+pub mod AsmLemmas
+pub mod StatusLemmas
 pub mod AnswerLemmas

@@ -7,7 +7,7 @@ use Rattle.qpu_hazard.specs.declared.checked.CheckFault.{CheckFault}
 use Rattle.qpu_hazard.specs.declared.checked.CheckFault.TheVariants as check
 use Rattle.qpu_job.specs.declared.fault.JobFault.{JobFault}
 use Rattle.qpu_job.specs.declared.fault.JobFault.TheVariants as fault
-use Rattle.qpu_job.specs.Plan.{Plan, Program}
+use Rattle.qpu_job.specs.Plan.{Plan}
 use Rattle.qpu_tool.specs.declared.status.Status.{Status}
 use Rattle.qpu_tool.specs.declared.status.Status.TheVariants as status
 use Rattle.qpu_tool.specs.declared.ascii.TheConstants.{LAST_ASCII}

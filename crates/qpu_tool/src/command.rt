@@ -1,39 +1,23 @@
-//! The command of a run without workers, from the words and the bytes of a job to the answer.
-ghost use Rattle.std.specs.Prelude.{◌≡◌, ◌<◌, ◌≤◌, ◌↔◌, ◌⊎◌, ℕ, List, Some, map, length, position, IsSome, IsTrue, string_bytes};
+//! The commands that wait for nobody, from the words and the bytes to the answer.
+ghost use Rattle.std.specs.Prelude.{◌≡◌, ◌<◌, ◌≤◌, ◌⊎◌, ℕ, List, Some, map, length, position, IsSome, None, Ok, string_bytes};
 ghost use Rattle.qpu_io.specs.Faults.{Rose};
+ghost use Rattle.qpu_asm.specs.Assembly.{IsAssembly};
+ghost use Rattle.qpu_tool.specs.declared.words.Command.{Command};
+ghost use Rattle.qpu_tool.specs.declared.words.Command.TheVariants.{Run, Assemble};
+ghost use Rattle.qpu_tool.specs.Commands.{IsCommand, IsNoCommand};
 ghost use Rattle.qpu_tool.specs.Refusals.{is_high};
-ghost use Rattle.qpu_tool.specs.Answers.{IsRun, IsOfText, IsOfRun, IsQuiet, NothingLeft, PrintsRun, IsRefusedJob, IsRefusedProgram, IsAccepted, RunsIt, Answered, AnswersTo, Gives, Outcome, usage, read_fault, too_long};
+ghost use Rattle.qpu_tool.specs.Answer.{Gives, usage, read_fault, too_long};
+ghost use Rattle.qpu_tool.specs.RunAnswers.{IsOfRun, PrintsRun, IsRefusedJob, IsRefusedProgram, IsAccepted, RunsIt};
+ghost use Rattle.qpu_tool.specs.Answers.{IsOfText, IsQuiet, NothingLeft, Answered, AnswersTo, RefusesText, PrintsWords, Assembles, Outcome};
 
 use crate::judging::judge;
 use crate::status::Status;
+use crate::words::command_of;
 use qpu_io::{ReadAllError, Sink, Source, read_all, write_all_of};
 use std::alloc::Global;
 
 /// Bytes of the longest input.
 pub const MOST_INPUT: u64 = 8_388_608;
-
-/// Whether a word of the command line is this text.
-fn is_word(word: &String, text: &str) -> bool
-    ensures { IsTrue result ↔ (string_bytes word.now ≡ text.now) }
-{
-    word.as_str() == text
-}
-
-/// Whether the words are those of the one command.
-fn is_run(words: &[String]) -> bool
-    ensures { IsTrue result ↔ IsRun (map string_bytes words.now) }
-{
-    let [command, option, workers] = words else {
-        return false;
-    };
-    if !is_word(command, "run") {
-        return false;
-    }
-    if !is_word(option, "-w") {
-        return false;
-    }
-    is_word(workers, "0")
-}
 
 /// Says that the words are no command.
 fn say_usage<K: Sink>(sink: &mut K) -> Status
@@ -74,21 +58,23 @@ fn carried_out<S: Source, K: Sink>(
 ) -> Status
     ensures { Outcome (map string_bytes words.now) (S.shown source.old) (S.shown source.new) (K.shown sink.old) (K.shown sink.new) result }
 {
-    if !is_run(words) {
-        return say_usage(sink);
-    }
-    match read_all(alloc, source, MOST_INPUT) {
-        Ok(text) => judge(alloc, &text, sink),
-        Err(ReadAllError::Source) => say_read_fault(sink),
-        Err(ReadAllError::TooLong) => say_too_long(sink),
-        Err(ReadAllError::Memory) => Status::NoMemory,
+    match command_of(words) {
+        None => say_usage(sink),
+        Some(command) => match read_all(alloc, source, MOST_INPUT) {
+            Ok(text) => judge(alloc, command, &text, sink),
+            Err(ReadAllError::Source) => say_read_fault(sink),
+            Err(ReadAllError::TooLong) => say_too_long(sink),
+            Err(ReadAllError::Memory) => Status::NoMemory,
+        },
     }
 }
 
-/// Carries out a command that waits for nobody: today `run -w 0`, on a job of at most 8,388,608
-/// bytes. It reads the whole job, runs it in the serial order until nothing can move, and writes its
-/// record and its report; or it writes the one line of the refusal that is due. The answer is any
-/// status but AsmRefused and RecordRefused; after the first write no memory is taken.
+/// Carries out a command that waits for nobody, on an input of at most 8,388,608 bytes. `run -w 0`
+/// reads a whole job, runs it in the serial order until nothing can move, and writes its record and
+/// its report. `asm` reads a whole assembly text, and writes a line for each of its words: `0x` and
+/// sixteen lower-case hexadecimal digits. Where the input is refused, the one line of the refusal
+/// that is due is written. The answer is any status but RecordRefused; after the first write no
+/// memory is taken.
 pub fn plain<S: Source, K: Sink>(
     alloc: Global,
     words: &[String],
@@ -98,8 +84,8 @@ pub fn plain<S: Source, K: Sink>(
     ensures outcome { Outcome (map string_bytes words.now) (S.shown source.old) (S.shown source.new) (K.shown sink.old) (K.shown sink.new) result }
 
     // The words: usage exactly where they are no command, and then nothing is read.
-    ensures usage { result ≡ Status.Usage → (IsRun (map string_bytes words.now) → ⊥) × (S.shown source.new ≡ S.shown source.old) }
-    ensures no_command { (IsRun (map string_bytes words.now) → ⊥) → (result ≡ Status.Usage) ⊎ (result ≡ Status.WriteFault) }
+    ensures usage { result ≡ Status.Usage → IsNoCommand (map string_bytes words.now) × (S.shown source.new ≡ S.shown source.old) }
+    ensures no_command { IsNoCommand (map string_bytes words.now) → (result ≡ Status.Usage) ⊎ (result ≡ Status.WriteFault) }
 
     // No fault is passed over, and none is made up.
     ensures sink_fault { (K.shown sink.old).faults < (K.shown sink.new).faults → result ≡ Status.WriteFault }
@@ -114,16 +100,30 @@ pub fn plain<S: Source, K: Sink>(
     // Each answer to the bytes has its cause, and where no fault is counted one of them comes.
     ensures too_long { (bytes : List ℕ) → (S.shown source.old).left ≡ Some bytes → result ≡ Status.TooLong → MOST_INPUT < length bytes }
     ensures not_ascii { (bytes : List ℕ) → (S.shown source.old).left ≡ Some bytes → result ≡ Status.NotAscii → IsSome (position is_high bytes) }
+    ensures answered { (bytes : List ℕ) (command : Command) → IsCommand (map string_bytes words.now) command → (S.shown source.old).left ≡ Some bytes
+        → IsOfText result → Answered command bytes (K.shown sink.old) (K.shown sink.new) result }
+    ensures complete { (bytes : List ℕ) (command : Command) → IsCommand (map string_bytes words.now) command → (S.shown source.old).left ≡ Some bytes
+        → IsQuiet (S.shown source.old).faults (S.shown source.new).faults → IsQuiet (K.shown sink.old).faults (K.shown sink.new).faults
+        → AnswersTo command bytes (K.shown sink.old) (K.shown sink.new) result }
+
+    // Runs: each status of them has its cause, and an accepted job is run.
     ensures job_refused { (bytes : List ℕ) → (S.shown source.old).left ≡ Some bytes → result ≡ Status.JobRefused → IsRefusedJob bytes }
     ensures hazard_refused { (bytes : List ℕ) → (S.shown source.old).left ≡ Some bytes → result ≡ Status.HazardRefused → IsRefusedProgram bytes }
-    ensures ran { (bytes : List ℕ) → (S.shown source.old).left ≡ Some bytes → IsOfRun result → PrintsRun bytes (K.shown sink.old) (K.shown sink.new) result }
-    ensures answered { (bytes : List ℕ) → (S.shown source.old).left ≡ Some bytes → IsOfText result → Answered bytes (K.shown sink.old) (K.shown sink.new) result }
-    ensures complete { (bytes : List ℕ) → IsRun (map string_bytes words.now) → (S.shown source.old).left ≡ Some bytes
-        → IsQuiet (S.shown source.old).faults (S.shown source.new).faults → IsQuiet (K.shown sink.old).faults (K.shown sink.new).faults
-        → AnswersTo bytes (K.shown sink.old) (K.shown sink.new) result }
-    ensures accepted { (bytes : List ℕ) → IsRun (map string_bytes words.now) → (S.shown source.old).left ≡ Some bytes → length bytes ≤ MOST_INPUT → IsAccepted bytes
+    ensures ran { (bytes : List ℕ) → IsCommand (map string_bytes words.now) Run → (S.shown source.old).left ≡ Some bytes
+        → IsOfRun result → PrintsRun bytes (K.shown sink.old) (K.shown sink.new) result }
+    ensures accepted { (bytes : List ℕ) → IsCommand (map string_bytes words.now) Run → (S.shown source.old).left ≡ Some bytes → length bytes ≤ MOST_INPUT → IsAccepted bytes
         → IsQuiet (S.shown source.old).faults (S.shown source.new).faults → IsQuiet (K.shown sink.old).faults (K.shown sink.new).faults
         → RunsIt bytes (K.shown sink.old) (K.shown sink.new) result }
+
+    // Assembly text: the first fault is told, or the words that are due are printed.
+    ensures asm_refused { (bytes : List ℕ) (command : Command) → IsCommand (map string_bytes words.now) command → (S.shown source.old).left ≡ Some bytes
+        → result ≡ Status.AsmRefused → RefusesText command bytes (K.shown sink.old) (K.shown sink.new) }
+    ensures assembled { (bytes : List ℕ) → IsCommand (map string_bytes words.now) Assemble → (S.shown source.old).left ≡ Some bytes
+        → result ≡ Status.Done → PrintsWords bytes (K.shown sink.old) (K.shown sink.new) }
+    ensures assembles { (bytes codes : List ℕ) → IsCommand (map string_bytes words.now) Assemble → (S.shown source.old).left ≡ Some bytes
+        → length bytes ≤ MOST_INPUT → position is_high bytes ≡ None → IsAssembly bytes (Ok codes)
+        → IsQuiet (S.shown source.old).faults (S.shown source.new).faults → IsQuiet (K.shown sink.old).faults (K.shown sink.new).faults
+        → Assembles codes (K.shown sink.old) (K.shown sink.new) result }
 {
     carried_out(alloc, words, source, sink)
 }

@@ -1,14 +1,18 @@
 //! The program's commands, from their words and input to a status and an output.
 //!
-//! Today there is one: `run -w 0`, which runs a job in the serial order. A job's programs are words
-//! as numbers. The promise of a run is the contract of `plain`.
+//! Today there are two: `run -w 0`, which runs a job in the serial order, and `asm`, which gives the
+//! words of assembly text. A job's programs are words as numbers. The promise of a run, and the cause
+//! of every answer, are the contract of `plain`.
 #![tactic(auto)]
 
 mod ascii;
+mod assembling;
 mod command;
 mod judging;
 mod refusing;
+mod running;
 mod status;
+mod words;
 
 pub use command::{MOST_INPUT, plain};
 pub use status::Status;

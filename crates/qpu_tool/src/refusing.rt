@@ -3,7 +3,8 @@ ghost use Rattle.std.specs.Prelude.{◌≡◌, ◌≢◌, map};
 ghost use Rattle.qpu_io.specs.Output.{Prints};
 ghost use Rattle.qpu_job.specs.Plan.{Program, programs_of};
 ghost use Rattle.qpu_tool.specs.Refusals.{word_fault_name, job_line, check_line, fault_line, fault_status, name_at, not_ascii_line};
-ghost use Rattle.qpu_tool.specs.Answers.{Gives, not_ascii, refusal};
+ghost use Rattle.qpu_tool.specs.Answer.{Gives, not_ascii};
+ghost use Rattle.qpu_tool.specs.RunAnswers.{refusal};
 
 use crate::status::Status;
 use qpu_hazard::CheckFault;

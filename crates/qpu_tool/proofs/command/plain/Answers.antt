@@ -1,7 +1,9 @@
 -- Each clause follows of the outcome.
-use Rattle.std.proofs.Common.{refl, subst, sym}
+use Rattle.std.proofs.Common.{subst, sym}
+use Rattle.qpu_tool.specs.declared.words.Command.TheVariants.{Run, Assemble}
 use Rattle.qpu_tool.specs.Answers.{IsOfText}
-use Rattle.qpu_tool.proofs.AnswerLemmas.{came, usage_told, no_command, sink_told, source_told, write_fault_told, read_fault_told, nothing_left, memory_told, too_long_told, answered_told, not_ascii_is, job_refused_is, hazard_refused_is, run_is, is_of_text, due_for, runs_accepted}
+use Rattle.qpu_tool.proofs.AnswerLemmas.{came, usage_told, no_command, sink_told, source_told, write_fault_told, read_fault_told, nothing_left, memory_told, too_long_told, for_bytes, answered_told, due_for}
+use Rattle.qpu_tool.proofs.StatusLemmas.{not_ascii_is, job_refused_is, hazard_refused_is, run_is, runs_accepted, text_refused_is, words_are, assembles_it, text_by_run}
 use Rattle.qpu_tool.proofs.command.plain.Goals as goal
 
 pub returns : goal.returns
@@ -19,12 +21,21 @@ returns g c =
       nothing_left = nothing_left _ _ _ _ _ _ k;
       no_memory = memory_told _ _ _ _ _ _ k;
       too_long = λ bytes left is. too_long_told _ _ _ _ _ _ bytes k is left;
-      not_ascii = λ bytes left is. not_ascii_is bytes _ _ _ (answered_told _ _ _ _ _ _ bytes k (subst IsOfText (sym is) tt) left) is;
-      job_refused = λ bytes left is. job_refused_is bytes _ _ _ (answered_told _ _ _ _ _ _ bytes k (subst IsOfText (sym is) tt) left) is;
-      hazard_refused = λ bytes left is. hazard_refused_is bytes _ _ _ (answered_told _ _ _ _ _ _ bytes k (subst IsOfText (sym is) tt) left) is;
-      ran = λ bytes left of. run_is bytes _ _ _ (answered_told _ _ _ _ _ _ bytes k (is_of_text _ of) left) of;
-      answered = λ bytes left of. answered_told _ _ _ _ _ _ bytes k of left;
-      complete = λ bytes run left quiet_in quiet_out. due_for _ _ _ _ _ _ bytes k run left quiet_in quiet_out;
-      accepted = λ bytes run left short is quiet_in quiet_out.
-          runs_accepted bytes _ _ _ short is (due_for _ _ _ _ _ _ bytes k run left quiet_in quiet_out);
+      not_ascii = λ bytes left is.
+          let f = for_bytes _ _ _ _ _ _ bytes k (subst IsOfText (sym is) tt) left in not_ascii_is f.command bytes _ _ _ f.given is;
+      answered = λ bytes command words left of. answered_told _ _ _ _ _ _ bytes command k of words left;
+      complete = λ bytes command words left quiet_in quiet_out. due_for _ _ _ _ _ _ bytes command k words left quiet_in quiet_out;
+      job_refused = λ bytes left is.
+          let f = for_bytes _ _ _ _ _ _ bytes k (subst IsOfText (sym is) tt) left in job_refused_is f.command bytes _ _ _ f.given is;
+      hazard_refused = λ bytes left is.
+          let f = for_bytes _ _ _ _ _ _ bytes k (subst IsOfText (sym is) tt) left in hazard_refused_is f.command bytes _ _ _ f.given is;
+      ran = λ bytes words left of. run_is bytes _ _ _ (answered_told _ _ _ _ _ _ bytes Run k (text_by_run _ of) words left) of;
+      accepted = λ bytes words left short is quiet_in quiet_out.
+          runs_accepted bytes _ _ _ short is (due_for _ _ _ _ _ _ bytes Run k words left quiet_in quiet_out);
+      asm_refused = λ bytes command words left is.
+          text_refused_is command bytes _ _ _ (answered_told _ _ _ _ _ _ bytes command k (subst IsOfText (sym is) tt) words left) is;
+      assembled = λ bytes words left is.
+          words_are bytes _ _ _ (answered_told _ _ _ _ _ _ bytes Assemble k (subst IsOfText (sym is) tt) words left) is;
+      assembles = λ bytes codes words left short ascii due quiet_in quiet_out.
+          assembles_it bytes codes _ _ _ short ascii due (due_for _ _ _ _ _ _ bytes Assemble k words left quiet_in quiet_out);
     }

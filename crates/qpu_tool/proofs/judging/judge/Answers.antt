@@ -1,6 +1,7 @@
 -- A byte that is no ASCII is told before all else.
 use Rattle.std.proofs.Common.{sym, ◌∙◌}
-use Rattle.qpu_tool.specs.Answers.{answered, high, not_ascii}
+use Rattle.qpu_tool.specs.Answer.{not_ascii}
+use Rattle.qpu_tool.specs.Answers.{answered, high}
 use Rattle.qpu_tool.proofs.judging.judge.Goals as goal
 
 pub returns-in-Some : goal.returns-in-Some

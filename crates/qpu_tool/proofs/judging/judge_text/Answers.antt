@@ -1,13 +1,8 @@
--- A text that is no job is refused.
-use Rattle.std.proofs.Common.{[]}
-use Rattle.qpu_job.specs.Reading.{job_of}
-use Rattle.qpu_tool.specs.Answers.{answered, no_job, refusal}
-use Rattle.qpu_tool.proofs.JudgeLemmas.{fails_is}
+-- The answer is that of the command.
 use Rattle.qpu_tool.proofs.judging.judge_text.Goals as goal
 
-pub returns-else-is_want : goal.returns-else-is_want
-returns-else-is_want g c =
-    let none = c.is_want.ensures.no c.if-is_want.false in
-    answered (refusal [] c.in-Err.fault)
-    (no_job c.in-Err.fault c.requires.ascii (fails_is c.in-Err.fault (job_of c.args.text.now) c.in-Err.ensures.answer none) c.in-Err.ensures.kinds none)
-    c.say_fault.ensures
+pub returns-in-Run : goal.returns-in-Run
+returns-in-Run g c = rw c.in-Run.is c.run_text.ensures
+
+pub returns-in-Assemble : goal.returns-in-Assemble
+returns-in-Assemble g c = rw c.in-Assemble.is c.assemble_text.ensures

@@ -1,6 +1,6 @@
 -- The run is the one that was promised.
 use Rattle.qpu_tool.proofs.JudgeLemmas.{judged_run}
-use Rattle.qpu_tool.proofs.judging.run.Goals as goal
+use Rattle.qpu_tool.proofs.running.run.Goals as goal
 
 pub returns-in-Ok : goal.returns-in-Ok
 returns-in-Ok g c =

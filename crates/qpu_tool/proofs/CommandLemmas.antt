@@ -1,0 +1,25 @@
+-- Words are those of one command.
+use Rattle.std.proofs.Common.{◌≡◌, ℕ, List, [], Option, Some, None, refl, ap, sym, ◌∙◌, get_or}
+use Rattle.std.specs.Prelude.{◌==◌, if◌then◌else◌}
+use Rattle.qpu_tool.specs.declared.words.Command.{Command}
+use Rattle.qpu_tool.specs.declared.words.Command.TheVariants.{Run, Assemble}
+use Rattle.qpu_tool.specs.Commands.{words_of, IsCommand}
+
+-- the command with a first letter
+with_letter : ℕ → Option Command
+with_letter letter = if letter == 114 then Some Run else if letter == 97 then Some Assemble else None
+
+named_by : List (List ℕ) → Option Command
+named_by words = with_letter (get_or (get_or words 0 []) 0 0)
+
+is_named : (command : Command) → named_by (words_of command) ≡ Some command
+unfolding named_by with_letter
+is_named Run = refl
+is_named Assemble = refl
+
+same_some : (command other : Command) → ◌≡◌ {A = Option Command} (Some command) (Some other) → command ≡ other
+same_some command other e = cc
+
+pub one_command : (words : List (List ℕ)) (command other : Command) → IsCommand words command → IsCommand words other → command ≡ other
+one_command words command other is too =
+    same_some command other (sym (is_named command) ∙ (ap named_by (sym is ∙ too) ∙ is_named other))

@@ -1,0 +1,21 @@
+-- The commands and their words. This project's own.
+use Rattle.std.specs.Prelude.{◌≡◌, ℕ, List, [], ◌∷◌, codes}
+use Rattle.qpu_tool.specs.declared.words.Command.{Command}
+use Rattle.qpu_tool.specs.declared.words.Command.TheVariants.{Run, Assemble}
+
+-- the words of a command
+abbrev pub words_of : Command → List (List ℕ)
+words_of Run = codes "run" ∷ codes "-w" ∷ codes "0" ∷ []
+words_of Assemble = codes "asm" ∷ []
+
+-- the words are those of a command
+abbrev pub IsCommand : List (List ℕ) → Command → Type 0
+IsCommand words command = words ≡ words_of command
+
+-- the words are those of a run without workers
+abbrev pub IsRun : List (List ℕ) → Type 0
+IsRun words = IsCommand words Run
+
+-- the words are those of no command
+abbrev pub IsNoCommand : List (List ℕ) → Type 0
+IsNoCommand words = (command : Command) → IsCommand words command → ⊥

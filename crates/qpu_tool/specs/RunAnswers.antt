@@ -1,0 +1,80 @@
+-- The answers to the text of a job. This project's own.
+use Rattle.std.specs.Prelude.{◌≡◌, ◌≢◌, ◌⊎◌, ℕ, List, [], position, None, Ok, Err}
+use Rattle.qpu_io.specs.Output.{Output, appended}
+use Rattle.qpu_machine.specs.declared.actor.Actor.{Actor}
+use Rattle.qpu_machine.specs.Machine.{MachineState}
+use Rattle.qpu_machine.specs.Ending.{ending_of}
+use Rattle.qpu_hazard.specs.declared.checked.CheckFault.{CheckFault}
+use Rattle.qpu_job.specs.declared.fault.JobFault.{JobFault}
+use Rattle.qpu_job.specs.declared.fault.JobFault.TheVariants as fault
+use Rattle.qpu_job.specs.Plan.{Plan}
+use Rattle.qpu_job.specs.Reading.{job_of, IsReadFault}
+use Rattle.qpu_job.specs.Opening.{AreClean, IsMakeFault}
+use Rattle.qpu_tool.specs.declared.status.Status.{Status}
+use Rattle.qpu_tool.specs.declared.status.Status.TheVariants.{Done, NoMemory, Stuck, RanOut, Faulted}
+use Rattle.qpu_tool.specs.Statuses.{status_for}
+use Rattle.qpu_tool.specs.Refusals.{is_high, names_of, fault_line, fault_status}
+use Rattle.qpu_tool.specs.Run.{FaithfulRun, run_text}
+use Rattle.qpu_tool.specs.Answer.{Answer}
+
+-- the answer to a fault of a job whose programs have these names
+abbrev pub refusal : List (List ℕ) → JobFault → Answer
+refusal names e = record { status = fault_status e; text = fault_line names e }
+
+-- the answer of a run
+abbrev pub run_answer : List ℕ → List Actor → MachineState → Answer
+run_answer job s m = record { status = status_for (ending_of m); text = run_text job s m }
+
+-- the answer to the text of a job, in the order in which refusals are tried: a line of the job; a
+-- program; or a run of the job that it is
+pub data RunAnswer (text : List ℕ) : Answer → Type 0 where
+  no_job : (e : JobFault) → job_of text ≡ Err e → IsReadFault e → e ≢ fault.Memory → RunAnswer text (refusal [] e)
+  no_machine : (plan : Plan) (e : JobFault) → job_of text ≡ Ok plan → IsMakeFault plan e → e ≢ fault.Memory
+      → RunAnswer text (refusal (names_of plan) e)
+  ran : (plan : Plan) (s : List Actor) (m : MachineState) → job_of text ≡ Ok plan → FaithfulRun plan s m → RunAnswer text (run_answer text s m)
+
+-- the statuses of a run that came to its end
+abbrev pub IsOfRun : Status → Type 0
+IsOfRun Done = Unit {0}
+IsOfRun Stuck = Unit {0}
+IsOfRun RanOut = Unit {0}
+IsOfRun Faulted = Unit {0}
+IsOfRun _ = ⊥
+
+-- what was printed for a job: the text of a run of it that is what was promised; the status is that of
+-- its ending
+pub record PrintsRun (job : List ℕ) (old new : Output) (status : Status) : Type 0 where
+  pub plan : Plan
+  pub schedule : List Actor
+  pub machine : MachineState
+  pub ascii : position is_high job ≡ None
+  pub is_job : job_of job ≡ Ok plan
+  pub run : FaithfulRun plan schedule machine
+  pub status_is : status ≡ status_for (ending_of machine)
+  pub printed : new ≡ appended old (run_text job schedule machine)
+
+-- an accepted job: its bytes are ASCII, and its programs are words of the profile, no path of which
+-- breaks a hazard rule
+pub record IsAccepted (text : List ℕ) : Type 0 where
+  pub plan : Plan
+  pub codes : List (List ℕ)
+  pub ascii : position is_high text ≡ None
+  pub is_job : job_of text ≡ Ok plan
+  pub are_clean : AreClean plan codes
+
+-- a job was run to its end and its run printed, or memory was wanting
+abbrev pub RunsIt : List ℕ → Output → Output → Status → Type 0
+RunsIt job old new status = (status ≡ NoMemory) ⊎ (IsOfRun status × PrintsRun job old new status)
+
+-- why a job was refused: by a line of it, or by a program that isn't built
+pub data IsRefusedJob (text : List ℕ) : Type 0 where
+  by_line : (e : JobFault) → job_of text ≡ Err e → IsRefusedJob text
+  by_program : (plan : Plan) (line : ℕ) → job_of text ≡ Ok plan → IsMakeFault plan (fault.NotBuilt line) → IsRefusedJob text
+
+-- why a program was refused: a word outside the profile, or a hazard rule that breaks on some path
+pub record IsRefusedProgram (text : List ℕ) : Type 0 where
+  pub plan : Plan
+  pub program : ℕ
+  pub why : CheckFault
+  pub is_job : job_of text ≡ Ok plan
+  pub refused : IsMakeFault plan (fault.Check program why)
