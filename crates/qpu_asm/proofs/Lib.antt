@@ -40,3 +40,4 @@ pub mod UnitsLaw
 pub mod LineLaw
 pub mod RawLaw
 pub mod HexLemmas
+pub mod OneAssembly

@@ -1,12 +1,14 @@
 //! Laws of lines. Each is a function without a body; its clause is the law.
-ghost use Rattle.std.specs.Prelude.{◌≡◌, ◌↔◌, ℕ, List, Ok, All, map};
+ghost use Rattle.std.specs.Prelude.{◌≡◌, ◌↔◌, ℕ, List, Result, Ok, All, map};
 ghost use Rattle.qpu_token.specs.declared.token.Token.{Token as TokenOf};
+ghost use Rattle.qpu_token.specs.declared.fault.AsmFault.{AsmFault as AsmFaultOf};
 ghost use Rattle.qpu_line.specs.declared.instruction.Instruction.{Instruction as InstructionOf};
 ghost use Rattle.qpu_line.specs.Named.{HasWord};
 ghost use Rattle.qpu_asm.specs.declared.placed.Placed.{Placed as PlacedOf};
 ghost use Rattle.qpu_asm.specs.declared.line.Line.TheVariants.{Raw, Says};
 ghost use Rattle.qpu_asm.specs.Placed.{placed, Labels};
 ghost use Rattle.qpu_asm.specs.LinesRead.{read_line};
+ghost use Rattle.qpu_asm.specs.Assembly.{IsAssembly};
 ghost use Rattle.qpu_asm.specs.Laws.{IsProper, symbols_of, word_symbols};
 
 /// The names among a text's tokens are names of the language.
@@ -29,4 +31,10 @@ pub fn lines_of_texts_have_words()
 /// A line's word stands as it is written exactly where the line is `.word` and a number.
 pub fn raw_lines_are_words()
     ensures { (at : ℕ) (end : TokenOf) (xs : List PlacedOf) (n : ℕ) → read_line at end xs ≡ Ok (Raw n) ↔ symbols_of xs ≡ word_symbols n }
+{}
+
+/// A text has one answer: its words, or its first fault.
+#[tactic(auto, using(crate::proofs::OneAssembly::one_assembly))]
+pub fn texts_have_one_answer()
+    ensures { (text : List ℕ) (a b : Result (List ℕ) AsmFaultOf) → IsAssembly text a → IsAssembly text b → a ≡ b }
 {}

@@ -12,7 +12,7 @@ use Rattle.qpu_tool.specs.Refusals.{is_high}
 use Rattle.qpu_tool.specs.Answer.{Answer}
 use Rattle.qpu_tool.specs.TextAnswers.{AsmAnswer, refused, assembled, words_text}
 use Rattle.qpu_tool.specs.Answers.{TellsFault, PrintsWords}
-use Rattle.qpu_tool.proofs.OneAssembly.{one_assembly}
+use Rattle.qpu_asm.proofs.OneAssembly.{one_assembly}
 
 -- the statuses of answers to assembly text
 abbrev pub IsOfAsm : Status → Type 0

@@ -2,7 +2,6 @@ pub mod CommandLemmas
 pub mod JudgeLemmas
 pub mod WordLemmas
 pub mod RunLemmas
-pub mod OneAssembly
 pub mod AsmLemmas
 pub mod StatusLemmas
 pub mod AnswerLemmas
