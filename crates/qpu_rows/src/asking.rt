@@ -12,6 +12,12 @@ pub const RUN: [&str; 3] = ["run", "-w", "0"];
 /// The word of the assembler.
 pub const ASM: [&str; 1] = ["asm"];
 
+/// The word of the disassembler.
+pub const DIS: [&str; 1] = ["dis"];
+
+/// The word of the checker.
+pub const CHECK: [&str; 1] = ["check"];
+
 /// A job that is run, and what it gives.
 #[derive(Clone, Copy)]
 pub struct Row {

@@ -14,7 +14,11 @@ mod assembler_faults;
 #[cfg(test)]
 mod assembler_limits;
 #[cfg(test)]
+mod check_command;
+#[cfg(test)]
 mod cuts;
+#[cfg(test)]
+mod dis_command;
 #[cfg(test)]
 mod hexadecimal;
 #[cfg(test)]

@@ -3,5 +3,7 @@ pub mod JudgeLemmas
 pub mod WordLemmas
 pub mod RunLemmas
 pub mod AsmLemmas
+pub mod DisLemmas
+pub mod CheckLemmas
 pub mod StatusLemmas
 pub mod AnswerLemmas

@@ -3,17 +3,22 @@ use Rattle.std.proofs.Common.{◌≡◌, ℕ, ◌≤◌, inl, inr, List, length,
 use Rattle.std.specs.Prelude.{IsSome, position}
 use Rattle.qpu_io.specs.Output.{Output, appended}
 use Rattle.qpu_asm.specs.Assembly.{IsAssembly}
+use Rattle.qpu_asm.specs.HexLines.{hex_words}
+use Rattle.qpu_flow.specs.Code.{AllInProfile}
+use Rattle.qpu_hazard.specs.Refusal.{NoneRefusable}
 use Rattle.qpu_tool.specs.declared.status.Status.{Status}
 use Rattle.qpu_tool.specs.declared.status.Status.TheVariants.{Done, Usage, AsmRefused, JobRefused, HazardRefused, ReadFault, WriteFault, NoMemory, Stuck, RanOut, Faulted, RecordRefused, TooLong, NotAscii}
 use Rattle.qpu_tool.specs.declared.command.TheConstants.{MOST_INPUT}
 use Rattle.qpu_tool.specs.declared.words.Command.{Command}
-use Rattle.qpu_tool.specs.declared.words.Command.TheVariants.{Run, Assemble}
+use Rattle.qpu_tool.specs.declared.words.Command.TheVariants.{Run, Assemble, Disassemble, Check}
 use Rattle.qpu_tool.specs.Refusals.{is_high}
 use Rattle.qpu_tool.specs.Answer.{Answer}
-use Rattle.qpu_tool.specs.RunAnswers.{IsOfRun, PrintsRun, IsRefusedJob, IsRefusedProgram, IsAccepted, RunsIt}
-use Rattle.qpu_tool.specs.Answers.{AnswerBy, AnswerTo, high, low, Answered, IsOfText, RefusesText, PrintsWords, Assembles, AnswersTo}
+use Rattle.qpu_tool.specs.RunAnswers.{IsOfRun, PrintsRun, IsAccepted, RunsIt}
+use Rattle.qpu_tool.specs.Answers.{AnswerBy, AnswerTo, high, low, Answered, IsOfText, RefusesText, RefusesJob, RefusesWords, PrintsWords, Assembles, PrintsLines, Disassembles, PrintsAccepted, Accepts, AnswersTo}
 use Rattle.qpu_tool.proofs.RunLemmas.{IsOfJob, job_status, job_refused_by, program_refused_by, ran_by, accepted_by}
 use Rattle.qpu_tool.proofs.AsmLemmas.{IsOfAsm, asm_status, told_by, words_by, assembled_by}
+use Rattle.qpu_tool.proofs.DisLemmas.{IsOfDis, dis_status, line_told_by, lines_by, disassembled_by}
+use Rattle.qpu_tool.proofs.CheckLemmas.{IsOfCheck, check_status, misspelled_by, hazard_by, accepted_told, accepts_by}
 
 -- the statuses of answers to a text of ASCII
 abbrev IsOfAscii : Status → Type 0
@@ -58,6 +63,38 @@ ascii_by_asm RecordRefused of = of
 ascii_by_asm TooLong of = of
 ascii_by_asm NotAscii of = of
 
+ascii_by_dis : (status : Status) → IsOfDis status → IsOfAscii status
+ascii_by_dis Done of = tt
+ascii_by_dis Usage of = of
+ascii_by_dis AsmRefused of = tt
+ascii_by_dis JobRefused of = tt
+ascii_by_dis HazardRefused of = tt
+ascii_by_dis ReadFault of = of
+ascii_by_dis WriteFault of = of
+ascii_by_dis NoMemory of = of
+ascii_by_dis Stuck of = tt
+ascii_by_dis RanOut of = tt
+ascii_by_dis Faulted of = tt
+ascii_by_dis RecordRefused of = of
+ascii_by_dis TooLong of = of
+ascii_by_dis NotAscii of = of
+
+ascii_by_check : (status : Status) → IsOfCheck status → IsOfAscii status
+ascii_by_check Done of = tt
+ascii_by_check Usage of = of
+ascii_by_check AsmRefused of = tt
+ascii_by_check JobRefused of = tt
+ascii_by_check HazardRefused of = tt
+ascii_by_check ReadFault of = of
+ascii_by_check WriteFault of = of
+ascii_by_check NoMemory of = of
+ascii_by_check Stuck of = tt
+ascii_by_check RanOut of = tt
+ascii_by_check Faulted of = tt
+ascii_by_check RecordRefused of = of
+ascii_by_check TooLong of = of
+ascii_by_check NotAscii of = of
+
 text_by_ascii : (status : Status) → IsOfAscii status → IsOfText status
 text_by_ascii Done of = tt
 text_by_ascii Usage of = of
@@ -93,6 +130,8 @@ text_by_run NotAscii of = tt
 ascii_status : (command : Command) (text : List ℕ) (answer : Answer) → AnswerBy command text answer → IsOfAscii answer.status
 ascii_status Run text answer by = ascii_by_job answer.status (job_status text answer by)
 ascii_status Assemble text answer by = ascii_by_asm answer.status (asm_status text answer by)
+ascii_status Disassemble text answer by = ascii_by_dis answer.status (dis_status text answer by)
+ascii_status Check text answer by = ascii_by_check answer.status (check_status text answer by)
 
 pub text_status : (command : Command) (text : List ℕ) (answer : Answer) → AnswerTo command text answer → IsOfText answer.status
 text_status command text answer (high at is) = tt
@@ -110,31 +149,37 @@ not_ascii_is command text held held' status a e = high_of command text a.answer 
 
 -- a job is refused by a line or a program that isn't built
 
-job_refused_of : (command : Command) (text : List ℕ) (answer : Answer) → AnswerBy command text answer → JobRefused ≡ answer.status → IsRefusedJob text
+job_refused_of : (command : Command) (text : List ℕ) (answer : Answer) → AnswerBy command text answer → JobRefused ≡ answer.status → RefusesJob command text
 job_refused_of Run text answer by e = job_refused_by text answer by e
-job_refused_of Assemble text answer by e = absurd (subst IsOfAsm (sym e) (asm_status text answer by))
+job_refused_of Assemble text answer by e = subst IsOfAsm (sym e) (asm_status text answer by)
+job_refused_of Disassemble text answer by e = subst IsOfDis (sym e) (dis_status text answer by)
+job_refused_of Check text answer by e = subst IsOfCheck (sym e) (check_status text answer by)
 
-refused_of : (command : Command) (text : List ℕ) (answer : Answer) → AnswerTo command text answer → JobRefused ≡ answer.status → IsRefusedJob text
+refused_of : (command : Command) (text : List ℕ) (answer : Answer) → AnswerTo command text answer → JobRefused ≡ answer.status → RefusesJob command text
 refused_of command text answer (high at is) e = absurd (let f : JobRefused ≡ NotAscii = e in cc)
 refused_of command text answer (low a ascii by) e = job_refused_of command text answer by e
 
 pub job_refused_is : (command : Command) (text : List ℕ) (held held' : Output) (status : Status) → Answered command text held held' status → status ≡ JobRefused
-    → IsRefusedJob text
+    → RefusesJob command text
 job_refused_is command text held held' status a e = refused_of command text a.answer a.due (sym e ∙ a.status_is)
 
--- a program is refused by the checker
+-- the words of a program are refused by the checker
 
-program_refused_of : (command : Command) (text : List ℕ) (answer : Answer) → AnswerBy command text answer → HazardRefused ≡ answer.status → IsRefusedProgram text
-program_refused_of Run text answer by e = program_refused_by text answer by e
-program_refused_of Assemble text answer by e = absurd (subst IsOfAsm (sym e) (asm_status text answer by))
+words_refused_of : (command : Command) (text : List ℕ) (answer : Answer) (held held' : Output) → position is_high text ≡ None → AnswerBy command text answer
+    → HazardRefused ≡ answer.status → held' ≡ appended held answer.text → RefusesWords command text held held'
+words_refused_of Run text answer held held' ascii by e all = program_refused_by text answer by e
+words_refused_of Assemble text answer held held' ascii by e all = subst IsOfAsm (sym e) (asm_status text answer by)
+words_refused_of Disassemble text answer held held' ascii by e all = subst IsOfDis (sym e) (dis_status text answer by)
+words_refused_of Check text answer held held' ascii by e all = hazard_by text answer held held' ascii by e all
 
-hazard_of : (command : Command) (text : List ℕ) (answer : Answer) → AnswerTo command text answer → HazardRefused ≡ answer.status → IsRefusedProgram text
-hazard_of command text answer (high at is) e = absurd (let f : HazardRefused ≡ NotAscii = e in cc)
-hazard_of command text answer (low a ascii by) e = program_refused_of command text answer by e
+hazard_of : (command : Command) (text : List ℕ) (answer : Answer) (held held' : Output) → AnswerTo command text answer
+    → HazardRefused ≡ answer.status → held' ≡ appended held answer.text → RefusesWords command text held held'
+hazard_of command text answer held held' (high at is) e all = absurd (let f : HazardRefused ≡ NotAscii = e in cc)
+hazard_of command text answer held held' (low a ascii by) e all = words_refused_of command text answer held held' ascii by e all
 
 pub hazard_refused_is : (command : Command) (text : List ℕ) (held held' : Output) (status : Status) → Answered command text held held' status
-    → status ≡ HazardRefused → IsRefusedProgram text
-hazard_refused_is command text held held' status a e = hazard_of command text a.answer a.due (sym e ∙ a.status_is)
+    → status ≡ HazardRefused → RefusesWords command text held held'
+hazard_refused_is command text held held' status a e = hazard_of command text a.answer held held' a.due (sym e ∙ a.status_is) a.printed
 
 -- a run was printed
 
@@ -169,6 +214,8 @@ told_of : (command : Command) (text : List ℕ) (answer : Answer) (held held' : 
     → AsmRefused ≡ answer.status → held' ≡ appended held answer.text → RefusesText command text held held'
 told_of Run text answer held held' ascii by e all = subst IsOfJob (sym e) (job_status text answer by)
 told_of Assemble text answer held held' ascii by e all = told_by text answer held held' ascii by e all
+told_of Disassemble text answer held held' ascii by e all = line_told_by text answer held held' ascii by e all
+told_of Check text answer held held' ascii by e all = misspelled_by text answer held held' ascii by e all
 
 text_refused_of : (command : Command) (text : List ℕ) (answer : Answer) (held held' : Output) → AnswerTo command text answer
     → AsmRefused ≡ answer.status → held' ≡ appended held answer.text → RefusesText command text held held'
@@ -202,3 +249,48 @@ assembles_it text codes held held' status short ascii due (inl want) = inl want
 assembles_it text codes held held' status short ascii due (inr (inl long)) = absurd (omega (arith, short, long.1))
 assembles_it text codes held held' status short ascii due (inr (inr all)) =
     assembled_it text codes all.1.answer held held' status ascii due all.1.due all.1.status_is all.1.printed
+
+-- the lines of words
+
+lines_of : (text : List ℕ) (answer : Answer) (held held' : Output) → AnswerTo Disassemble text answer
+    → Done ≡ answer.status → held' ≡ appended held answer.text → PrintsLines text held held'
+lines_of text answer held held' (high at is) e all = absurd (let f : Done ≡ NotAscii = e in cc)
+lines_of text answer held held' (low a ascii by) e all = lines_by text answer held held' ascii by e all
+
+pub lines_are : (text : List ℕ) (held held' : Output) (status : Status) → Answered Disassemble text held held' status → status ≡ Done → PrintsLines text held held'
+lines_are text held held' status a e = lines_of text a.answer held held' a.due (sym e ∙ a.status_is) a.printed
+
+disassembled_it : (text codes : List ℕ) (answer : Answer) (held held' : Output) (status : Status) → position is_high text ≡ None → hex_words text ≡ Ok codes
+    → AnswerTo Disassemble text answer → status ≡ answer.status → held' ≡ appended held answer.text → Disassembles codes held held' status
+disassembled_it text codes answer held held' status ascii due (high at there) e all = absurd (no_place (position is_high text) at ascii there)
+disassembled_it text codes answer held held' status ascii due (low a none by) e all = inr (disassembled_by text codes answer held held' status due by e all)
+
+pub disassembles_it : (text codes : List ℕ) (held held' : Output) (status : Status) → length text ≤ MOST_INPUT → position is_high text ≡ None
+    → hex_words text ≡ Ok codes → AnswersTo Disassemble text held held' status → Disassembles codes held held' status
+disassembles_it text codes held held' status short ascii due (inl want) = inl want
+disassembles_it text codes held held' status short ascii due (inr (inl long)) = absurd (omega (arith, short, long.1))
+disassembles_it text codes held held' status short ascii due (inr (inr all)) =
+    disassembled_it text codes all.1.answer held held' status ascii due all.1.due all.1.status_is all.1.printed
+
+-- accepted programs
+
+accepted_of : (text : List ℕ) (answer : Answer) (held held' : Output) → AnswerTo Check text answer
+    → Done ≡ answer.status → held' ≡ appended held answer.text → PrintsAccepted text held held'
+accepted_of text answer held held' (high at is) e all = absurd (let f : Done ≡ NotAscii = e in cc)
+accepted_of text answer held held' (low a ascii by) e all = accepted_told text answer held held' ascii by e all
+
+pub accepted_are : (text : List ℕ) (held held' : Output) (status : Status) → Answered Check text held held' status → status ≡ Done → PrintsAccepted text held held'
+accepted_are text held held' status a e = accepted_of text a.answer held held' a.due (sym e ∙ a.status_is) a.printed
+
+checked_it : (text codes : List ℕ) (answer : Answer) (held held' : Output) (status : Status) → position is_high text ≡ None → IsAssembly text (Ok codes)
+    → AllInProfile codes → NoneRefusable codes → AnswerTo Check text answer → status ≡ answer.status → held' ≡ appended held answer.text → Accepts codes held held' status
+checked_it text codes answer held held' status ascii due inside clean (high at there) e all = absurd (no_place (position is_high text) at ascii there)
+checked_it text codes answer held held' status ascii due inside clean (low a none by) e all =
+    inr (accepts_by text codes answer held held' status due inside clean by e all)
+
+pub checks_it : (text codes : List ℕ) (held held' : Output) (status : Status) → length text ≤ MOST_INPUT → position is_high text ≡ None
+    → IsAssembly text (Ok codes) → AllInProfile codes → NoneRefusable codes → AnswersTo Check text held held' status → Accepts codes held held' status
+checks_it text codes held held' status short ascii due inside clean (inl want) = inl want
+checks_it text codes held held' status short ascii due inside clean (inr (inl long)) = absurd (omega (arith, short, long.1))
+checks_it text codes held held' status short ascii due inside clean (inr (inr all)) =
+    checked_it text codes all.1.answer held held' status ascii due inside clean all.1.due all.1.status_is all.1.printed

@@ -1,25 +1,34 @@
 -- Which answer is due, and what a call comes to. This project's own.
-use Rattle.std.specs.Prelude.{◌≡◌, ◌<◌, ◌≤◌, ◌⊎◌, ℕ, List, [], length, position, IfSome, Some, None, Ok, Err}
+use Rattle.std.specs.Prelude.{◌≡◌, ◌≢◌, ◌<◌, ◌≤◌, ◌⊎◌, ℕ, List, [], length, position, IfSome, Some, None, Ok, Err}
 use Rattle.qpu_io.specs.Faults.{Rose}
 use Rattle.qpu_io.specs.Input.{Input, ReadsToEnd, ReadsPast, ReadsPart, ReadBreaks}
 use Rattle.qpu_io.specs.Output.{Output, appended}
 use Rattle.qpu_token.specs.declared.fault.AsmFault.{AsmFault}
 use Rattle.qpu_asm.specs.Assembly.{IsAssembly}
+use Rattle.qpu_asm.specs.HexLines.{hex_words}
+use Rattle.qpu_dis.specs.Text.{disassembly}
+use Rattle.qpu_flow.specs.Code.{AllInProfile}
+use Rattle.qpu_hazard.specs.declared.checked.CheckFault.{CheckFault}
+use Rattle.qpu_hazard.specs.declared.checked.CheckFault.TheVariants as check
+use Rattle.qpu_hazard.specs.Refusal.{NoneRefusable}
+use Rattle.qpu_hazard.specs.Faults.{IsCheckFault}
 use Rattle.qpu_tool.specs.declared.status.Status.{Status}
 use Rattle.qpu_tool.specs.declared.status.Status.TheVariants.{Done, Usage, AsmRefused, JobRefused, HazardRefused, ReadFault, WriteFault, NoMemory, Stuck, RanOut, Faulted, RecordRefused, TooLong, NotAscii}
 use Rattle.qpu_tool.specs.declared.command.TheConstants.{MOST_INPUT}
 use Rattle.qpu_tool.specs.declared.words.Command.{Command}
-use Rattle.qpu_tool.specs.declared.words.Command.TheVariants.{Run, Assemble}
+use Rattle.qpu_tool.specs.declared.words.Command.TheVariants.{Run, Assemble, Disassemble, Check}
 use Rattle.qpu_tool.specs.Commands.{IsCommand, IsNoCommand}
-use Rattle.qpu_tool.specs.Refusals.{is_high}
+use Rattle.qpu_tool.specs.Refusals.{is_high, program_line}
 use Rattle.qpu_tool.specs.Answer.{Answer, usage, read_fault, too_long, not_ascii, Gives}
-use Rattle.qpu_tool.specs.RunAnswers.{RunAnswer}
-use Rattle.qpu_tool.specs.TextAnswers.{AsmAnswer, asm_line, words_text}
+use Rattle.qpu_tool.specs.RunAnswers.{RunAnswer, IsRefusedJob, IsRefusedProgram}
+use Rattle.qpu_tool.specs.TextAnswers.{AsmAnswer, DisAnswer, CheckAnswer, asm_line, words_text, accepted_line}
 
 -- the answer of a command to a text of ASCII
 abbrev pub AnswerBy : Command → List ℕ → Answer → Type 0
 AnswerBy Run text answer = RunAnswer text answer
 AnswerBy Assemble text answer = AsmAnswer text answer
+AnswerBy Disassemble text answer = DisAnswer text answer
+AnswerBy Check text answer = CheckAnswer text answer
 
 -- the answer of a command to a whole input: a byte that is no ASCII is told before all else
 pub data AnswerTo (command : Command) (text : List ℕ) : Answer → Type 0 where
@@ -82,10 +91,44 @@ pub record TellsFault (text : List ℕ) (old new : Output) : Type 0 where
   pub is_due : IsAssembly text (Err fault)
   pub printed : new ≡ appended old (asm_line fault)
 
+-- a line of a text is no word, the first such line, and its line was printed
+pub record TellsLine (text : List ℕ) (old new : Output) : Type 0 where
+  pub fault : AsmFault
+  pub ascii : position is_high text ≡ None
+  pub is_due : hex_words text ≡ Err fault
+  pub printed : new ≡ appended old (asm_line fault)
+
 -- why a command refused a text, and what it printed
 abbrev pub RefusesText : Command → List ℕ → Output → Output → Type 0
 RefusesText Run text old new = ⊥
 RefusesText Assemble text old new = TellsFault text old new
+RefusesText Disassemble text old new = TellsLine text old new
+RefusesText Check text old new = TellsFault text old new
+
+-- why a command refused the job of a text
+abbrev pub RefusesJob : Command → List ℕ → Type 0
+RefusesJob Run text = IsRefusedJob text
+RefusesJob Assemble text = ⊥
+RefusesJob Disassemble text = ⊥
+RefusesJob Check text = ⊥
+
+-- the words of assembly text are refused by the checker: the least of them that is outside the profile,
+-- or the first hazard; and its line was printed
+pub record TellsHazard (text : List ℕ) (old new : Output) : Type 0 where
+  pub words : List ℕ
+  pub fault : CheckFault
+  pub ascii : position is_high text ≡ None
+  pub are_due : IsAssembly text (Ok words)
+  pub is_due : IsCheckFault words fault
+  pub no_want : fault ≢ check.Memory
+  pub printed : new ≡ appended old (program_line fault)
+
+-- why a command refused the words of a program, and what it printed
+abbrev pub RefusesWords : Command → List ℕ → Output → Output → Type 0
+RefusesWords Run text old new = IsRefusedProgram text
+RefusesWords Assemble text old new = ⊥
+RefusesWords Disassemble text old new = ⊥
+RefusesWords Check text old new = TellsHazard text old new
 
 -- the words of assembly text were printed
 pub record PrintsWords (text : List ℕ) (old new : Output) : Type 0 where
@@ -97,6 +140,30 @@ pub record PrintsWords (text : List ℕ) (old new : Output) : Type 0 where
 -- the words of assembly text were printed, or memory was wanting
 abbrev pub Assembles : List ℕ → Output → Output → Status → Type 0
 Assembles words old new status = (status ≡ NoMemory) ⊎ ((status ≡ Done) × (new ≡ appended old (words_text words)))
+
+-- the lines of words were printed
+pub record PrintsLines (text : List ℕ) (old new : Output) : Type 0 where
+  pub words : List ℕ
+  pub ascii : position is_high text ≡ None
+  pub are_due : hex_words text ≡ Ok words
+  pub printed : new ≡ appended old (disassembly words)
+
+-- the lines of words were printed, or memory was wanting
+abbrev pub Disassembles : List ℕ → Output → Output → Status → Type 0
+Disassembles words old new status = (status ≡ NoMemory) ⊎ ((status ≡ Done) × (new ≡ appended old (disassembly words)))
+
+-- a program was accepted: its words are in the profile, and no path of them breaks a hazard rule
+pub record PrintsAccepted (text : List ℕ) (old new : Output) : Type 0 where
+  pub words : List ℕ
+  pub ascii : position is_high text ≡ None
+  pub are_due : IsAssembly text (Ok words)
+  pub inside : AllInProfile words
+  pub clean : NoneRefusable words
+  pub printed : new ≡ appended old (accepted_line (length words))
+
+-- a program was accepted, or memory was wanting
+abbrev pub Accepts : List ℕ → Output → Output → Status → Type 0
+Accepts words old new status = (status ≡ NoMemory) ⊎ ((status ≡ Done) × (new ≡ appended old (accepted_line (length words))))
 
 -- no fault was counted: neither is a count greater after the call, nor does it stand at its last value
 abbrev pub IsQuiet : ℕ → ℕ → Type 0

@@ -1,12 +1,14 @@
 -- The commands and their words. This project's own.
 use Rattle.std.specs.Prelude.{◌≡◌, ℕ, List, [], ◌∷◌, codes}
 use Rattle.qpu_tool.specs.declared.words.Command.{Command}
-use Rattle.qpu_tool.specs.declared.words.Command.TheVariants.{Run, Assemble}
+use Rattle.qpu_tool.specs.declared.words.Command.TheVariants.{Run, Assemble, Disassemble, Check}
 
 -- the words of a command
 abbrev pub words_of : Command → List (List ℕ)
 words_of Run = codes "run" ∷ codes "-w" ∷ codes "0" ∷ []
 words_of Assemble = codes "asm" ∷ []
+words_of Disassemble = codes "dis" ∷ []
+words_of Check = codes "check" ∷ []
 
 -- the words are those of a command
 abbrev pub IsCommand : List (List ℕ) → Command → Type 0

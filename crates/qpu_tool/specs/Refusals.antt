@@ -39,15 +39,24 @@ word_fault_name word.Rotation = codes "Rotation"
 word_fault_name word.SemaphoreTarget = codes "SemaphoreTarget"
 word_fault_name word.NoSource = codes "NoSource"
 
--- the line of what the checker refuses in a program of this name
-abbrev pub check_line : List ℕ → CheckFault → List ℕ
-check_line name (check.Word at fault) =
-    joined (codes "refused word " ∷ word_fault_name fault ∷ codes " in " ∷ name ∷ codes " at " ∷ decimal at ∷ codes "\n" ∷ [])
-check_line name (check.Hazard rule at before) =
+-- the line of what the checker refuses, with a word before the name of the program; want of memory
+-- has none
+abbrev pub refused_line : List ℕ → List ℕ → CheckFault → List ℕ
+refused_line within name (check.Word at fault) =
+    joined (codes "refused word " ∷ word_fault_name fault ∷ within ∷ name ∷ codes " at " ∷ decimal at ∷ codes "\n" ∷ [])
+refused_line within name (check.Hazard rule at before) =
     joined
-    (codes "refused hazard H" ∷ decimal rule ∷ codes " in " ∷ name ∷ codes " at " ∷ decimal at ∷ codes " after "
+    (codes "refused hazard H" ∷ decimal rule ∷ within ∷ name ∷ codes " at " ∷ decimal at ∷ codes " after "
     ∷ decimal before ∷ codes "\n" ∷ [])
-check_line name check.Memory = []
+refused_line within name check.Memory = []
+
+-- of a job's program of this name
+abbrev pub check_line : List ℕ → CheckFault → List ℕ
+check_line name refused = refused_line (codes " in ") name refused
+
+-- of a program that has no name
+abbrev pub program_line : CheckFault → List ℕ
+program_line refused = refused_line [] [] refused
 
 -- the name of the program of an index
 abbrev pub name_at : List (List ℕ) → ℕ → List ℕ

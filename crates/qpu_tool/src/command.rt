@@ -2,13 +2,16 @@
 ghost use Rattle.std.specs.Prelude.{◌≡◌, ◌<◌, ◌≤◌, ◌⊎◌, ℕ, List, Some, map, length, position, IsSome, None, Ok, string_bytes};
 ghost use Rattle.qpu_io.specs.Faults.{Rose};
 ghost use Rattle.qpu_asm.specs.Assembly.{IsAssembly};
+ghost use Rattle.qpu_asm.specs.HexLines.{hex_words};
+ghost use Rattle.qpu_flow.specs.Code.{AllInProfile};
+ghost use Rattle.qpu_hazard.specs.Refusal.{NoneRefusable};
 ghost use Rattle.qpu_tool.specs.declared.words.Command.{Command};
-ghost use Rattle.qpu_tool.specs.declared.words.Command.TheVariants.{Run, Assemble};
+ghost use Rattle.qpu_tool.specs.declared.words.Command.TheVariants.{Run, Assemble, Disassemble, Check};
 ghost use Rattle.qpu_tool.specs.Commands.{IsCommand, IsNoCommand};
 ghost use Rattle.qpu_tool.specs.Refusals.{is_high};
 ghost use Rattle.qpu_tool.specs.Answer.{Gives, usage, read_fault, too_long};
-ghost use Rattle.qpu_tool.specs.RunAnswers.{IsOfRun, PrintsRun, IsRefusedJob, IsRefusedProgram, IsAccepted, RunsIt};
-ghost use Rattle.qpu_tool.specs.Answers.{IsOfText, IsQuiet, NothingLeft, Answered, AnswersTo, RefusesText, PrintsWords, Assembles, Outcome};
+ghost use Rattle.qpu_tool.specs.RunAnswers.{IsOfRun, PrintsRun, IsAccepted, RunsIt};
+ghost use Rattle.qpu_tool.specs.Answers.{IsOfText, IsQuiet, NothingLeft, Answered, AnswersTo, RefusesText, RefusesJob, RefusesWords, PrintsWords, Assembles, PrintsLines, Disassembles, PrintsAccepted, Accepts, Outcome};
 
 use crate::judging::judge;
 use crate::status::Status;
@@ -72,8 +75,10 @@ fn carried_out<S: Source, K: Sink>(
 /// Carries out a command that waits for nobody, on an input of at most 8,388,608 bytes. `run -w 0`
 /// reads a whole job, runs it in the serial order until nothing can move, and writes its record and
 /// its report. `asm` reads a whole assembly text, and writes a line for each of its words: `0x` and
-/// sixteen lower-case hexadecimal digits. Where the input is refused, the one line of the refusal
-/// that is due is written. The answer is any status but RecordRefused; after the first write no
+/// sixteen lower-case hexadecimal digits. `dis` reads such lines, and writes the canonical line of each
+/// word, or `.word` and its number where the word isn't canonical. `check` assembles a text, and writes
+/// how many words it has where no path of them breaks a hazard rule. Where the input is refused, the
+/// one line of the refusal that is due is written. The answer is any status but RecordRefused; after the first write no
 /// memory is taken.
 pub fn plain<S: Source, K: Sink>(
     alloc: Global,
@@ -106,24 +111,44 @@ pub fn plain<S: Source, K: Sink>(
         → IsQuiet (S.shown source.old).faults (S.shown source.new).faults → IsQuiet (K.shown sink.old).faults (K.shown sink.new).faults
         → AnswersTo command bytes (K.shown sink.old) (K.shown sink.new) result }
 
+    // Refusals of what is read: a line or a program of a job, the words of a program, a text.
+    ensures job_refused { (bytes : List ℕ) (command : Command) → IsCommand (map string_bytes words.now) command → (S.shown source.old).left ≡ Some bytes
+        → result ≡ Status.JobRefused → RefusesJob command bytes }
+    ensures hazard_refused { (bytes : List ℕ) (command : Command) → IsCommand (map string_bytes words.now) command → (S.shown source.old).left ≡ Some bytes
+        → result ≡ Status.HazardRefused → RefusesWords command bytes (K.shown sink.old) (K.shown sink.new) }
+    ensures asm_refused { (bytes : List ℕ) (command : Command) → IsCommand (map string_bytes words.now) command → (S.shown source.old).left ≡ Some bytes
+        → result ≡ Status.AsmRefused → RefusesText command bytes (K.shown sink.old) (K.shown sink.new) }
+
     // Runs: each status of them has its cause, and an accepted job is run.
-    ensures job_refused { (bytes : List ℕ) → (S.shown source.old).left ≡ Some bytes → result ≡ Status.JobRefused → IsRefusedJob bytes }
-    ensures hazard_refused { (bytes : List ℕ) → (S.shown source.old).left ≡ Some bytes → result ≡ Status.HazardRefused → IsRefusedProgram bytes }
     ensures ran { (bytes : List ℕ) → IsCommand (map string_bytes words.now) Run → (S.shown source.old).left ≡ Some bytes
         → IsOfRun result → PrintsRun bytes (K.shown sink.old) (K.shown sink.new) result }
     ensures accepted { (bytes : List ℕ) → IsCommand (map string_bytes words.now) Run → (S.shown source.old).left ≡ Some bytes → length bytes ≤ MOST_INPUT → IsAccepted bytes
         → IsQuiet (S.shown source.old).faults (S.shown source.new).faults → IsQuiet (K.shown sink.old).faults (K.shown sink.new).faults
         → RunsIt bytes (K.shown sink.old) (K.shown sink.new) result }
 
-    // Assembly text: the first fault is told, or the words that are due are printed.
-    ensures asm_refused { (bytes : List ℕ) (command : Command) → IsCommand (map string_bytes words.now) command → (S.shown source.old).left ≡ Some bytes
-        → result ≡ Status.AsmRefused → RefusesText command bytes (K.shown sink.old) (K.shown sink.new) }
+    // Assembly text: the words that are due are printed.
     ensures assembled { (bytes : List ℕ) → IsCommand (map string_bytes words.now) Assemble → (S.shown source.old).left ≡ Some bytes
         → result ≡ Status.Done → PrintsWords bytes (K.shown sink.old) (K.shown sink.new) }
     ensures assembles { (bytes codes : List ℕ) → IsCommand (map string_bytes words.now) Assemble → (S.shown source.old).left ≡ Some bytes
         → length bytes ≤ MOST_INPUT → position is_high bytes ≡ None → IsAssembly bytes (Ok codes)
         → IsQuiet (S.shown source.old).faults (S.shown source.new).faults → IsQuiet (K.shown sink.old).faults (K.shown sink.new).faults
         → Assembles codes (K.shown sink.old) (K.shown sink.new) result }
+
+    // Words: their lines are printed.
+    ensures disassembled { (bytes : List ℕ) → IsCommand (map string_bytes words.now) Disassemble → (S.shown source.old).left ≡ Some bytes
+        → result ≡ Status.Done → PrintsLines bytes (K.shown sink.old) (K.shown sink.new) }
+    ensures disassembles { (bytes codes : List ℕ) → IsCommand (map string_bytes words.now) Disassemble → (S.shown source.old).left ≡ Some bytes
+        → length bytes ≤ MOST_INPUT → position is_high bytes ≡ None → hex_words bytes ≡ Ok codes
+        → IsQuiet (S.shown source.old).faults (S.shown source.new).faults → IsQuiet (K.shown sink.old).faults (K.shown sink.new).faults
+        → Disassembles codes (K.shown sink.old) (K.shown sink.new) result }
+
+    // The checker: words are accepted exactly where they are in the profile and break no rule.
+    ensures checked { (bytes : List ℕ) → IsCommand (map string_bytes words.now) Check → (S.shown source.old).left ≡ Some bytes
+        → result ≡ Status.Done → PrintsAccepted bytes (K.shown sink.old) (K.shown sink.new) }
+    ensures checks { (bytes codes : List ℕ) → IsCommand (map string_bytes words.now) Check → (S.shown source.old).left ≡ Some bytes
+        → length bytes ≤ MOST_INPUT → position is_high bytes ≡ None → IsAssembly bytes (Ok codes) → AllInProfile codes → NoneRefusable codes
+        → IsQuiet (S.shown source.old).faults (S.shown source.new).faults → IsQuiet (K.shown sink.old).faults (K.shown sink.new).faults
+        → Accepts codes (K.shown sink.old) (K.shown sink.new) result }
 {
     carried_out(alloc, words, source, sink)
 }

@@ -6,6 +6,8 @@ ghost use Rattle.qpu_tool.specs.declared.command.TheConstants.{MOST_INPUT};
 
 use crate::ascii::{first_high, text_of};
 use crate::assembling::assemble_text;
+use crate::checking::check_text;
+use crate::disassembling::disassemble_text;
 use crate::refusing::say_not_ascii;
 use crate::running::run_text;
 use crate::status::Status;
@@ -22,6 +24,8 @@ fn judge_text<K: Sink>(alloc: Global, command: Command, text: &str, sink: &mut K
     match command {
         Command::Run => run_text(alloc, text, sink),
         Command::Assemble => assemble_text(alloc, text, sink),
+        Command::Disassemble => disassemble_text(alloc, text, sink),
+        Command::Check => check_text(alloc, text, sink),
     }
 }
 

@@ -2,8 +2,9 @@
 ghost use Rattle.std.specs.Prelude.{◌≡◌, ◌≢◌, map};
 ghost use Rattle.qpu_io.specs.Output.{Prints};
 ghost use Rattle.qpu_job.specs.Plan.{Program, programs_of};
-ghost use Rattle.qpu_tool.specs.Refusals.{word_fault_name, job_line, check_line, fault_line, fault_status, name_at, not_ascii_line};
+ghost use Rattle.qpu_tool.specs.Refusals.{word_fault_name, job_line, refused_line, fault_line, fault_status, name_at, not_ascii_line};
 ghost use Rattle.qpu_tool.specs.Answer.{Gives, not_ascii};
+ghost use Rattle.qpu_tool.specs.TextAnswers.{check_refusal};
 ghost use Rattle.qpu_tool.specs.RunAnswers.{refusal};
 
 use crate::status::Status;
@@ -60,19 +61,20 @@ fn word_fault_name(fault: WordFault) -> &'static [u8]
     }
 }
 
-/// Writes the line of a word outside the profile, in the program of this name.
-fn put_word_line<K: Sink>(
-    name: &[u8],
+/// Writes the line of a word outside the profile, with a word before the program's name.
+fn put_word_line<'a, K: Sink>(
+    within: &'a [u8],
+    name: &'a [u8],
     at: u32,
     fault: WordFault,
     sink: &mut K,
 ) -> Result<(), SinkFailed>
-    ensures { Prints (K.shown sink.old) (K.shown sink.new) (check_line name.now (CheckFault.Word at fault)) result }
+    ensures { Prints (K.shown sink.old) (K.shown sink.new) (refused_line within.now name.now (CheckFault.Word at fault)) result }
 {
     let pieces = [
         Piece::Text(b"refused word "),
         Piece::Text(word_fault_name(fault)),
-        Piece::Text(b" in "),
+        Piece::Text(within),
         Piece::Text(name),
         Piece::Text(b" at "),
         Piece::Decimal(u64::from(at)),
@@ -81,20 +83,21 @@ fn put_word_line<K: Sink>(
     put_all(&pieces, sink)
 }
 
-/// Writes the line of a hazard in the program of this name.
-fn put_hazard_line<K: Sink>(
-    name: &[u8],
+/// Writes the line of a hazard, with a word before the program's name.
+fn put_hazard_line<'a, K: Sink>(
+    within: &'a [u8],
+    name: &'a [u8],
     rule: u32,
     at: u32,
     before: u32,
     sink: &mut K,
 ) -> Result<(), SinkFailed>
-    ensures { Prints (K.shown sink.old) (K.shown sink.new) (check_line name.now (CheckFault.Hazard rule at before)) result }
+    ensures { Prints (K.shown sink.old) (K.shown sink.new) (refused_line within.now name.now (CheckFault.Hazard rule at before)) result }
 {
     let pieces = [
         Piece::Text(b"refused hazard H"),
         Piece::Decimal(u64::from(rule)),
-        Piece::Text(b" in "),
+        Piece::Text(within),
         Piece::Text(name),
         Piece::Text(b" at "),
         Piece::Decimal(u64::from(at)),
@@ -105,15 +108,33 @@ fn put_hazard_line<K: Sink>(
     put_all(&pieces, sink)
 }
 
-/// Writes the line of what the checker refuses; of want of memory there is none.
+/// Writes the line of what the checker refuses, with a word before the program's name; of want of
+/// memory there is none.
 #[tactic(auto, using(qpu_io::proofs::Outputs::appended_none))]
-fn put_check_line<K: Sink>(name: &[u8], fault: CheckFault, sink: &mut K) -> Result<(), SinkFailed>
-    ensures { Prints (K.shown sink.old) (K.shown sink.new) (check_line name.now fault) result }
+fn put_refused_line<'a, K: Sink>(
+    within: &'a [u8],
+    name: &'a [u8],
+    fault: CheckFault,
+    sink: &mut K,
+) -> Result<(), SinkFailed>
+    ensures { Prints (K.shown sink.old) (K.shown sink.new) (refused_line within.now name.now fault) result }
 {
     match fault {
-        CheckFault::Word(at, fault) => put_word_line(name, at, fault, sink),
-        CheckFault::Hazard { rule, at, before } => put_hazard_line(name, rule, at, before, sink),
+        CheckFault::Word(at, fault) => put_word_line(within, name, at, fault, sink),
+        CheckFault::Hazard { rule, at, before } => {
+            put_hazard_line(within, name, rule, at, before, sink)
+        }
         CheckFault::Memory => Ok(()),
+    }
+}
+
+/// Says what the checker refuses in a program without a name.
+pub(crate) fn say_hazard<K: Sink>(fault: CheckFault, sink: &mut K) -> Status
+    ensures { Gives (check_refusal fault) (K.shown sink.old) (K.shown sink.new) result }
+{
+    match put_refused_line(b"", b"", fault, sink) {
+        Ok(()) => Status::HazardRefused,
+        Err(_) => Status::WriteFault,
     }
 }
 
@@ -147,7 +168,7 @@ fn put_fault_line<K: Sink>(
         JobFault::Place(line) => put_job_line(b"Place", line, sink),
         JobFault::NotBuilt(line) => put_job_line(b"NotBuilt", line, sink),
         JobFault::Check { program, fault } => {
-            put_check_line(name_of(programs, program), fault, sink)
+            put_refused_line(b" in ", name_of(programs, program), fault, sink)
         }
         JobFault::Memory => Ok(()),
     }

@@ -9,6 +9,10 @@ pub enum Command {
     Run,
     /// `asm`: gives the words of assembly text.
     Assemble,
+    /// `dis`: gives the lines of words.
+    Disassemble,
+    /// `check`: judges assembly text.
+    Check,
 }
 
 /// Whether a word of the command line is this text.
@@ -54,6 +58,12 @@ pub(crate) fn command_of(words: &[String]) -> Option<Command>
     }
     if is_alone(words, "asm") {
         return Some(Command::Assemble);
+    }
+    if is_alone(words, "dis") {
+        return Some(Command::Disassemble);
+    }
+    if is_alone(words, "check") {
+        return Some(Command::Check);
     }
     None
 }

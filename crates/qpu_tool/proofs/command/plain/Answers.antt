@@ -1,9 +1,9 @@
 -- Each clause follows of the outcome.
 use Rattle.std.proofs.Common.{subst, sym}
-use Rattle.qpu_tool.specs.declared.words.Command.TheVariants.{Run, Assemble}
+use Rattle.qpu_tool.specs.declared.words.Command.TheVariants.{Run, Assemble, Disassemble, Check}
 use Rattle.qpu_tool.specs.Answers.{IsOfText}
 use Rattle.qpu_tool.proofs.AnswerLemmas.{came, usage_told, no_command, sink_told, source_told, write_fault_told, read_fault_told, nothing_left, memory_told, too_long_told, for_bytes, answered_told, due_for}
-use Rattle.qpu_tool.proofs.StatusLemmas.{not_ascii_is, job_refused_is, hazard_refused_is, run_is, runs_accepted, text_refused_is, words_are, assembles_it, text_by_run}
+use Rattle.qpu_tool.proofs.StatusLemmas.{not_ascii_is, job_refused_is, hazard_refused_is, run_is, runs_accepted, text_refused_is, words_are, assembles_it, lines_are, disassembles_it, accepted_are, checks_it, text_by_run}
 use Rattle.qpu_tool.proofs.command.plain.Goals as goal
 
 pub returns : goal.returns
@@ -25,10 +25,10 @@ returns g c =
           let f = for_bytes _ _ _ _ _ _ bytes k (subst IsOfText (sym is) tt) left in not_ascii_is f.command bytes _ _ _ f.given is;
       answered = λ bytes command words left of. answered_told _ _ _ _ _ _ bytes command k of words left;
       complete = λ bytes command words left quiet_in quiet_out. due_for _ _ _ _ _ _ bytes command k words left quiet_in quiet_out;
-      job_refused = λ bytes left is.
-          let f = for_bytes _ _ _ _ _ _ bytes k (subst IsOfText (sym is) tt) left in job_refused_is f.command bytes _ _ _ f.given is;
-      hazard_refused = λ bytes left is.
-          let f = for_bytes _ _ _ _ _ _ bytes k (subst IsOfText (sym is) tt) left in hazard_refused_is f.command bytes _ _ _ f.given is;
+      job_refused = λ bytes command words left is.
+          job_refused_is command bytes _ _ _ (answered_told _ _ _ _ _ _ bytes command k (subst IsOfText (sym is) tt) words left) is;
+      hazard_refused = λ bytes command words left is.
+          hazard_refused_is command bytes _ _ _ (answered_told _ _ _ _ _ _ bytes command k (subst IsOfText (sym is) tt) words left) is;
       ran = λ bytes words left of. run_is bytes _ _ _ (answered_told _ _ _ _ _ _ bytes Run k (text_by_run _ of) words left) of;
       accepted = λ bytes words left short is quiet_in quiet_out.
           runs_accepted bytes _ _ _ short is (due_for _ _ _ _ _ _ bytes Run k words left quiet_in quiet_out);
@@ -38,4 +38,12 @@ returns g c =
           words_are bytes _ _ _ (answered_told _ _ _ _ _ _ bytes Assemble k (subst IsOfText (sym is) tt) words left) is;
       assembles = λ bytes codes words left short ascii due quiet_in quiet_out.
           assembles_it bytes codes _ _ _ short ascii due (due_for _ _ _ _ _ _ bytes Assemble k words left quiet_in quiet_out);
+      disassembled = λ bytes words left is.
+          lines_are bytes _ _ _ (answered_told _ _ _ _ _ _ bytes Disassemble k (subst IsOfText (sym is) tt) words left) is;
+      disassembles = λ bytes codes words left short ascii due quiet_in quiet_out.
+          disassembles_it bytes codes _ _ _ short ascii due (due_for _ _ _ _ _ _ bytes Disassemble k words left quiet_in quiet_out);
+      checked = λ bytes words left is.
+          accepted_are bytes _ _ _ (answered_told _ _ _ _ _ _ bytes Check k (subst IsOfText (sym is) tt) words left) is;
+      checks = λ bytes codes words left short ascii due inside clean quiet_in quiet_out.
+          checks_it bytes codes _ _ _ short ascii due inside clean (due_for _ _ _ _ _ _ bytes Check k words left quiet_in quiet_out);
     }

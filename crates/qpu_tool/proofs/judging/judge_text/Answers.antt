@@ -6,3 +6,9 @@ returns-in-Run g c = rw c.in-Run.is c.run_text.ensures
 
 pub returns-in-Assemble : goal.returns-in-Assemble
 returns-in-Assemble g c = rw c.in-Assemble.is c.assemble_text.ensures
+
+pub returns-in-Disassemble : goal.returns-in-Disassemble
+returns-in-Disassemble g c = rw c.in-Disassemble.is c.disassemble_text.ensures
+
+pub returns-in-Check : goal.returns-in-Check
+returns-in-Check g c = rw c.in-Check.is c.check_text.ensures
