@@ -5,7 +5,6 @@ use Rattle.std.proofs.lemmas.List.{get_or-map, length-map, take_more}
 use Rattle.std.proofs.lemmas.List.Elements.{AllWithin-more}
 use Rattle.qpu_flow.specs.Code.{numbers_of, AllInProfile}
 use Rattle.qpu_flow.proofs.CodeLemmas.{length_numbers}
-use Rattle.qpu_hazard.specs.declared.checked.CheckFault.{CheckFault}
 use Rattle.qpu_hazard.specs.declared.checked.CheckFault.TheVariants as check
 use Rattle.qpu_hazard.specs.Refusal.{NoneRefusable}
 use Rattle.qpu_job.specs.declared.code.Code.{Code}
@@ -64,7 +63,7 @@ check_fails codes i code d (fault.Check program (check.Word at f)) low is inside
 check_fails codes i code d (fault.Check program (check.Hazard rule at before)) low is inside clean fails =
     rw fails.0 (omega (arith, length_codes codes), inside, rw (code_is codes i code d [] low is) fails.1.1, clean)
 check_fails codes i code d (fault.Check program check.Memory) low is inside clean fails = absurd fails
-check_fails codes i code d (fault.NotBuilt at) low is inside clean fails = absurd fails
+check_fails codes i code d (fault.Asm told) low is inside clean fails = absurd fails
 check_fails codes i code d fault.Memory low is inside clean fails = tt
 check_fails codes i code d (fault.Line at) low is inside clean fails = absurd fails
 check_fails codes i code d (fault.Size at) low is inside clean fails = absurd fails

@@ -1,6 +1,5 @@
 pub mod WordLemmas
 pub mod LineLemmas
-pub mod SaidLemmas
 pub mod CodeLemmas
 pub mod AboveLemmas
 pub mod KeptLemmas
@@ -11,4 +10,5 @@ pub mod GrammarOnly
 pub mod GrammarFound
 pub mod CheckLemmas
 pub mod StartLemmas
+pub mod OneCode
 pub mod OneMachineLaw

@@ -50,7 +50,7 @@ fails_by (fault.Twice n) number above line more h = rw h refl
 fails_by (fault.Processor n) number above line more h = rw h refl
 fails_by (fault.NoProgram n) number above line more h = rw h refl
 fails_by (fault.Place n) number above line more h = rw h refl
-fails_by (fault.NotBuilt n) number above line more h = rw h refl
+fails_by (fault.Asm told) number above line more h = rw h refl
 fails_by (fault.Check program check) number above line more h = rw h refl
 
 pub read_fails : (text rest line behind : List ℕ) (number : ℕ) (above : Above) (f : JobFault) → IsRead text rest number above → lines rest ≡ line ∷ lines behind
@@ -129,7 +129,7 @@ read_fault (fault.Twice n) due told h = tt
 read_fault (fault.Processor n) due told h = tt
 read_fault (fault.NoProgram n) due told h = tt
 read_fault (fault.Place n) due told h = tt
-read_fault (fault.NotBuilt n) due told h = subst Tells h told
+read_fault (fault.Asm own) due told h = subst Tells h told
 read_fault (fault.Check program check) due told h = subst Tells h told
 
 pub line_fault : (number : ℕ) (above : Above) (line : List ℕ) (f : JobFault) → Fails f (after_line number above line) → IsReadFault f

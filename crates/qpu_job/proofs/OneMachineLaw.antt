@@ -1,188 +1,163 @@
--- A job whose programs are clean is refused for nothing: what lines say, and so the words of programs,
--- are determined.
-use Rattle.std.proofs.Common.{◌≡◌, ◌≢◌, ℕ, suc, ◌+◌, ◌≤◌, All, List, [], ◌∷◌, ◌++◌, length, Result, Ok, Err, Option, Some, None, refl, ap, sym, subst, ◌∙◌, arith, append_assoc, append-nil, length-append}
-use Rattle.std.specs.List.{AllZip}
-use Rattle.qpu_word.specs.declared.word.Word.{Word as WordOf}
-use Rattle.qpu_word.specs.declared.code.TheConstants.{PROGRAM_WORDS}
-use Rattle.qpu_token.specs.declared.token.Token.{Token}
+-- A job whose programs are clean is refused for nothing, and of one job one refusal at most is due.
+use Rattle.std.proofs.Common.{◌≡◌, ◌≢◌, ℕ, ◌⊎◌, ◌<◌, All, List, [], Option, Some, None, refl, ap, sym, subst, inl, inr, ◌∙◌, arith}
+use Rattle.std.specs.List.{AllWithin}
+use Rattle.std.proofs.lemmas.Bool.{cases_order}
+use Rattle.qpu_word.specs.declared.fault.WordFault.{WordFault}
 use Rattle.qpu_token.specs.declared.fault.AsmFault.{AsmFault}
-use Rattle.qpu_token.proofs.AnswerLaw.{one_answer}
-use Rattle.qpu_flow.specs.Code.{AllInProfile}
+use Rattle.qpu_flow.specs.Code.{AllInProfile, IsFirstOutside}
+use Rattle.qpu_hazard.specs.declared.breaks.Hazard.{Hazard}
 use Rattle.qpu_hazard.specs.declared.checked.CheckFault.{CheckFault}
 use Rattle.qpu_hazard.specs.declared.checked.CheckFault.TheVariants as check
-use Rattle.qpu_hazard.specs.Refusal.{NoneRefusable}
-use Rattle.qpu_job.specs.declared.said.Said.{Said}
-use Rattle.qpu_job.specs.declared.said.Said.TheVariants.{Nothing, Word, Other}
+use Rattle.qpu_hazard.specs.Refusal.{NoneRefusable, NotAfter, IsFirst}
 use Rattle.qpu_job.specs.declared.fault.JobFault.{JobFault}
 use Rattle.qpu_job.specs.declared.fault.JobFault.TheVariants as fault
-use Rattle.qpu_job.specs.Lines.{lines}
-use Rattle.qpu_job.specs.Plan.{Plan, Program}
-use Rattle.qpu_job.specs.Programs.{LineSays, tokens, none, said_by, Give, at_first, blank, word, IsCode, IsUnbuilt, IsNotBuilt, HaveCodes, no_program, one_more, IsFirstUnbuilt}
-use Rattle.qpu_job.specs.Opening.{AreClean, IsChecked, IsMakeFault}
-use Rattle.qpu_job.specs.OneMachine.{CleanJobsAreAccepted}
+use Rattle.qpu_job.specs.Plan.{Plan}
+use Rattle.qpu_job.specs.Programs.{IsFirstAsmFault}
+use Rattle.qpu_job.specs.Opening.{AreClean, IsChecked, IsRefused, IsMakeFault, code_at}
+use Rattle.qpu_job.specs.OneMachine.{CleanJobsAreAccepted, OneRefusal}
+use Rattle.qpu_job.proofs.OneCode.{codes_one, never_first, first_one}
 
--- lists whose items are tied place by place
+-- the two kinds of refusals
 
-zip_push : {A B : Type 0} (R : A → B → Type 0) (xs : List A) (ys : List B) (x : A) (y : B) → AllZip R xs ys → R x y → AllZip R (xs ++ x ∷ []) (ys ++ y ∷ [])
-zip_push R [] [] x y zip tied = (tied, tt)
-zip_push R [] (b ∷ ys) x y zip tied = absurd zip
-zip_push R (a ∷ xs) [] x y zip tied = absurd zip
-zip_push R (a ∷ xs) (b ∷ ys) x y zip tied = (zip.0, zip_push R xs ys x y zip.1 tied)
+data Due (plan : Plan) (e : JobFault) : Type 0 where
+  by_text : (told : AsmFault) → e ≡ fault.Asm told → IsFirstAsmFault plan.programs told → Due plan e
+  by_check : (program : ℕ) (why : CheckFault) → e ≡ fault.Check program why → IsRefused plan program why → Due plan e
 
-both_same : {B : Type 0} (y z : B) (ys zs : List B) → y ≡ z → ys ≡ zs → y ∷ ys ≡ z ∷ zs
-both_same y z ys zs p q = ap (λ b. b ∷ ys) p ∙ ap (λ bs. z ∷ bs) q
+due : (plan : Plan) (e : JobFault) → IsMakeFault plan e → e ≢ fault.Memory → Due plan e
+due plan (fault.Asm told) fails apart = by_text told refl fails
+due plan (fault.Check program why) fails apart = by_check program why refl fails
+due plan fault.Memory fails apart = absurd (apart refl)
+due plan (fault.Line line) fails apart = absurd fails
+due plan (fault.Size line) fails apart = absurd fails
+due plan (fault.Limit line) fails apart = absurd fails
+due plan (fault.Twice line) fails apart = absurd fails
+due plan (fault.Processor line) fails apart = absurd fails
+due plan (fault.NoProgram line) fails apart = absurd fails
+due plan (fault.Place line) fails apart = absurd fails
 
-zips_same : {A B : Type 0} (R : A → B → Type 0) → ((x : A) (y z : B) → R x y → R x z → y ≡ z) → (xs : List A) (ys zs : List B) → AllZip R xs ys → AllZip R xs zs → ys ≡ zs
-zips_same R one [] [] [] p q = refl
-zips_same R one [] [] (z ∷ zs) p q = absurd q
-zips_same R one [] (y ∷ ys) zs p q = absurd p
-zips_same R one (x ∷ xs) [] zs p q = absurd p
-zips_same R one (x ∷ xs) (y ∷ ys) [] p q = absurd q
-zips_same R one (x ∷ xs) (y ∷ ys) (z ∷ zs) p q = both_same y z ys zs (one x y z p.0 q.0) (zips_same R one xs ys zs p.1 q.1)
-
--- the item tied to one in the middle, and those before and behind it
-record Split {A B : Type 0} (R : A → B → Type 0) (above : List A) (x : A) (ys : List B) : Type 0 where
-  front : List B
-  item : B
-  back : List B
-  all : ys ≡ front ++ item ∷ back
-  before : AllZip R above front
-  tied : R x item
-
-split : {A B : Type 0} (R : A → B → Type 0) (above : List A) (x : A) (below : List A) (ys : List B) → AllZip R (above ++ x ∷ below) ys → Split R above x ys
-split R [] x below [] zip = absurd zip
-split R [] x below (y ∷ ys) zip = record { front = []; item = y; back = ys; all = refl; before = tt; tied = zip.0 }
-split R (a ∷ above) x below [] zip = absurd zip
-split R (a ∷ above) x below (y ∷ ys) zip =
-    let rest = split R above x below ys zip.1 in
-    record { front = y ∷ rest.front; item = rest.item; back = rest.back; all = ap (λ more. y ∷ more) rest.all; before = (zip.0, rest.before); tied = rest.tied }
-
--- what a line says is determined
-
-same_tokens : (ts us : List Token) → ◌≡◌ {A = Result (List Token) AsmFault} (Ok ts) (Ok us) → ts ≡ us
-same_tokens ts us e = cc
-
-says_one : (line : List ℕ) (a b : Said) → LineSays line a → LineSays line b → a ≡ b
-says_one line a b (tokens ts are) (tokens us be) = ap (said_by line) (same_tokens ts us (one_answer line (Ok ts) (Ok us) are be))
-says_one line a b (tokens ts are) (none e is apart) = absurd (let f = one_answer line (Ok ts) (Err e) are (is, apart) in cc)
-says_one line a b (none e is apart) (tokens us be) = absurd (let f = one_answer line (Err e) (Ok us) (is, apart) be in cc)
-says_one line a b (none e is apart) (none f be other) = refl
-
--- the words that lines say
-
-abbrev IsTaken : Said → Type 0
-IsTaken Nothing = Unit {0}
-IsTaken (Word w) = Unit {0}
-IsTaken Other = ⊥
-
-abbrev Tells : List ℕ → Said → Type 0
-Tells line said = LineSays line said × IsTaken said
-
-tells_one : (line : List ℕ) (a b : Said) → Tells line a → Tells line b → a ≡ b
-tells_one line a b p q = says_one line a b p.0 q.0
-
-abbrev word_in : Said → List ℕ
-word_in Nothing = []
-word_in (Word w) = w.0 ∷ []
-word_in Other = []
-
-abbrev words_in : List Said → List ℕ
-words_in [] = []
-words_in (said ∷ saids) = word_in said ++ words_in saids
-
-words_joined : (xs ys : List Said) → words_in (xs ++ ys) ≡ words_in xs ++ words_in ys
-words_joined [] ys = refl
-words_joined (x ∷ xs) ys = ap (λ more. word_in x ++ more) (words_joined xs ys) ∙ sym (append_assoc (word_in x) (words_in xs) (words_in ys))
-
-words_pushed : (xs : List Said) (x : Said) → words_in (xs ++ x ∷ []) ≡ words_in xs ++ word_in x
-words_pushed xs x = words_joined xs (x ∷ []) ∙ ap (λ more. words_in xs ++ more) (append-nil (word_in x))
-
-record Told (above : List (List ℕ)) (code : List ℕ) : Type 0 where
-  saids : List Said
-  zip : AllZip Tells above saids
-  code_is : code ≡ words_in saids
-
-told_of : {above : List (List ℕ)} {code : List ℕ} → Give above code → Told above code
-told_of at_first = record { saids = []; zip = tt; code_is = refl }
-told_of (blank {above} {line} {code} gives says) =
-    let t = told_of gives in
-    record {
-      saids = t.saids ++ Nothing ∷ [];
-      zip = zip_push Tells above t.saids line Nothing t.zip (says, tt);
-      code_is = t.code_is ∙ sym (words_pushed t.saids Nothing ∙ append-nil (words_in t.saids));
-    }
-told_of (word {above} {line} {code} {w} gives says) =
-    let t = told_of gives in
-    record {
-      saids = t.saids ++ Word w ∷ [];
-      zip = zip_push Tells above t.saids line (Word w) t.zip (says, tt);
-      code_is = ap (λ more. more ++ w.0 ∷ []) t.code_is ∙ sym (words_pushed t.saids (Word w));
-    }
-
-code_one : (text c d : List ℕ) → IsCode text c → IsCode text d → c ≡ d
-code_one text c d p q =
-    let a = told_of p.gives in
-    let b = told_of q.gives in
-    a.code_is ∙ (ap words_in (zips_same Tells tells_one (lines text) a.saids b.saids a.zip b.zip) ∙ sym b.code_is)
-
--- a program that is built has no line that isn't
-
-too_many : (front back : List Said) (said : Said) (code : List ℕ) → IsUnbuilt said code → IsTaken said → code ≡ words_in front
-    → length (words_in (front ++ said ∷ back)) ≤ PROGRAM_WORDS → ⊥
-too_many front back Nothing code unbuilt taken is few = unbuilt
-too_many front back Other code unbuilt taken is few = taken
-too_many front back (Word w) code unbuilt taken is few =
-    absurd
-    (omega (arith, few, unbuilt, ap length is, ap length (words_joined front (Word w ∷ back)), length-append (words_in front) (w.0 ∷ words_in back)))
-
-never_unbuilt : (text c : List ℕ) (number : ℕ) → IsCode text c → IsNotBuilt text number → ⊥
-never_unbuilt text c number built not =
-    let all = told_of (subst (λ (ls : List (List ℕ)). Give ls c) not.all built.gives) in
-    let here = split Tells not.above not.line not.below all.saids all.zip in
-    let front = told_of not.gives in
-    let same : front.saids ≡ here.front = zips_same Tells tells_one not.above front.saids here.front front.zip here.before in
-    let said : here.item ≡ not.fails.said = says_one not.line here.item not.fails.said here.tied.0 not.fails.says in
-    too_many here.front here.back here.item not.code (subst (λ (s : Said). IsUnbuilt s not.code) (sym said) not.fails.unbuilt) here.tied.1
-    (front.code_is ∙ ap words_in same)
-    (subst (λ (code : List ℕ). length code ≤ PROGRAM_WORDS) (all.code_is ∙ ap words_in here.all) built.at_most)
-
--- programs
-
-abbrev Gives : Program → List ℕ → Type 0
-Gives program code = IsCode program.text code
-
-gives_one : (program : Program) (c d : List ℕ) → Gives program c → Gives program d → c ≡ d
-gives_one program c d = code_one program.text c d
-
-zip_of : {programs : List Program} {codes : List (List ℕ)} → HaveCodes programs codes → AllZip Gives programs codes
-zip_of no_program = tt
-zip_of (one_more {programs} {codes} {code} program have one) = zip_push Gives programs codes program code (zip_of have) one
-
-never_first : (programs : List Program) (codes : List (List ℕ)) (line : ℕ) → HaveCodes programs codes → IsFirstUnbuilt programs line → ⊥
-never_first programs codes line have first =
-    let zip = subst (λ (ps : List Program). AllZip Gives ps codes) first.all (zip_of have) in
-    let here = split Gives first.above first.program first.below codes zip in
-    never_unbuilt first.program.text here.item first.fails.0 here.tied first.fails.2
+-- a clean job
 
 no_fault : {X : Type 0} (o : Option X) (x : X) → o ≡ None → o ≡ Some x → ⊥
 no_fault o x p q = absurd (let f : None ≡ Some x = sym p ∙ q in cc)
 
+outside_no_more : (code : List ℕ) (at : ℕ) (f : WordFault) → AllInProfile code → IsFirstOutside code at f → ⊥
+outside_no_more code at f inside outside = no_fault _ f (inside at outside.there) outside.outside
+
 never_checked : (codes : List (List ℕ)) (program : ℕ) (why : CheckFault) → All AllInProfile codes → All NoneRefusable codes → IsChecked codes program why → ⊥
-never_checked codes program (check.Word at f) inside clean checked = no_fault _ f (inside program [] checked.0 at checked.1.there) checked.1.outside
+never_checked codes program (check.Word at f) inside clean checked = outside_no_more _ at f (inside program [] checked.0) checked.1
 never_checked codes program (check.Hazard rule at before) inside clean checked =
     clean program [] checked.0 (record { at = at; rule = rule; before = before }) checked.2.refusable
 never_checked codes program check.Memory inside clean checked = checked
 
+never_due : (plan : Plan) (codes : List (List ℕ)) (e : JobFault) → AreClean plan codes → Due plan e → ⊥
+never_due plan codes e are (by_text told is first) = never_first plan.programs codes told are.built first
+never_due plan codes e are (by_check program why is refused) =
+    never_checked codes program why are.inside are.clean
+    (subst (λ (cs : List (List ℕ)). IsChecked cs program why) (codes_one plan.programs refused.codes codes refused.built are.built) refused.first)
+
 pub clean_jobs : CleanJobsAreAccepted
-clean_jobs plan codes (fault.NotBuilt line) are fails apart = never_first plan.programs codes line are.built fails
-clean_jobs plan codes (fault.Check program why) are fails apart =
-    let same : fails.codes ≡ codes = zips_same Gives gives_one plan.programs fails.codes codes (zip_of fails.built) (zip_of are.built) in
-    never_checked codes program why are.inside are.clean (subst (λ (cs : List (List ℕ)). IsChecked cs program why) same fails.first)
-clean_jobs plan codes fault.Memory are fails apart = apart refl
-clean_jobs plan codes (fault.Line line) are fails apart = fails
-clean_jobs plan codes (fault.Size line) are fails apart = fails
-clean_jobs plan codes (fault.Limit line) are fails apart = fails
-clean_jobs plan codes (fault.Twice line) are fails apart = fails
-clean_jobs plan codes (fault.Processor line) are fails apart = fails
-clean_jobs plan codes (fault.NoProgram line) are fails apart = fails
-clean_jobs plan codes (fault.Place line) are fails apart = fails
+clean_jobs plan codes e are fails apart = never_due plan codes e are (due plan e fails apart)
+
+-- one refusal of the words of one program
+
+abbrev hazard : ℕ → ℕ → ℕ → Hazard
+hazard at rule before = record { at = at; rule = rule; before = before }
+
+same_break : (x y : Hazard) → NotAfter x y → NotAfter y x → x ≡ y
+same_break x y p q = both (at p q) (rule p q) (before p q)
+  where
+    at : NotAfter x y → NotAfter y x → x.at ≡ y.at
+    at (inl p) (inl q) = absurd (omega (arith, p, q))
+    at (inl p) (inr q) = sym q.0
+    at (inr p) q = p.0
+
+    rule : NotAfter x y → NotAfter y x → x.rule ≡ y.rule
+    rule (inl p) (inl q) = absurd (omega (arith, p, q))
+    rule (inl p) (inr q) = absurd (omega (arith, p, q.0))
+    rule (inr p) (inl q) = absurd (omega (arith, p.0, q))
+    rule (inr (e, inl p)) (inr (f, inl q)) = absurd (omega (arith, p, q))
+    rule (inr (e, inl p)) (inr (f, inr q)) = sym q.0
+    rule (inr (e, inr p)) q = p.0
+
+    before : NotAfter x y → NotAfter y x → x.before ≡ y.before
+    before (inl p) (inl q) = absurd (omega (arith, p, q))
+    before (inl p) (inr q) = absurd (omega (arith, p, q.0))
+    before (inr p) (inl q) = absurd (omega (arith, p.0, q))
+    before (inr (e, inl p)) (inr (f, inl q)) = absurd (omega (arith, p, q))
+    before (inr (e, inl p)) (inr (f, inr q)) = absurd (omega (arith, p, q.0))
+    before (inr (e, inr p)) (inr (f, inl q)) = absurd (omega (arith, p.0, q))
+    before (inr (e, inr p)) (inr (f, inr q)) = omega (arith, p.1, q.1)
+
+    both : x.at ≡ y.at → x.rule ≡ y.rule → x.before ≡ y.before → x ≡ y
+    both e f g = ap (λ (n : ℕ). hazard n x.rule x.before) e ∙ (ap (λ (n : ℕ). hazard y.at n x.before) f ∙ ap (λ (n : ℕ). hazard y.at y.rule n) g)
+
+no_hazard : (code : List ℕ) (h : Hazard) → NoneRefusable code → IsFirst code h → ⊥
+no_hazard code h none first = none h first.refusable
+
+same_hazard : (code : List ℕ) (x y : Hazard) → IsFirst code x → IsFirst code y → x ≡ y
+same_hazard code x y p q = same_break x y (p.least y q.refusable) (q.least x p.refusable)
+
+same_some : {X : Type 0} (o : Option X) (x y : X) → o ≡ Some x → o ≡ Some y → x ≡ y
+same_some o x y p q = let e : Some x ≡ Some y = sym p ∙ q in cc
+
+outside_at : (code : List ℕ) (a b : ℕ) (f g : WordFault) → IsFirstOutside code a f → IsFirstOutside code b g → a ≡ b
+outside_at code a b f g p q = by_order (cases_order a b)
+  where
+    by_order : (a ≡ b) ⊎ ((a < b) ⊎ (b < a)) → a ≡ b
+    by_order (inl e) = e
+    by_order (inr (inl low)) = absurd (no_fault _ f (q.before a low) p.outside)
+    by_order (inr (inr low)) = absurd (no_fault _ g (p.before b low) q.outside)
+
+outside_why : (code : List ℕ) (a : ℕ) (f g : WordFault) → IsFirstOutside code a f → IsFirstOutside code a g → f ≡ g
+outside_why code a f g p q = same_some _ f g p.outside q.outside
+
+same_outside : (code : List ℕ) (a b : ℕ) (f g : WordFault) → IsFirstOutside code a f → IsFirstOutside code b g → check.Word a f ≡ check.Word b g
+same_outside code a b f g p q =
+    let e : a ≡ b = outside_at code a b f g p q in
+    ap (λ (n : ℕ). check.Word n f) e
+    ∙ ap (λ (w : WordFault). check.Word b w) (outside_why code b f g (subst (λ (n : ℕ). IsFirstOutside code n f) e p) q)
+
+-- and of all programs
+
+-- of two programs that are the first for which something fails one can't be above the other
+same_place : (P : List ℕ → Type 0) (codes : List (List ℕ)) (k j : ℕ) → AllWithin P codes 0 k → AllWithin P codes 0 j
+    → (P (code_at codes k) → ⊥) → (P (code_at codes j) → ⊥) → k ≡ j
+same_place P codes k j above above' fails fails' = by_order (cases_order k j)
+  where
+    by_order : (k ≡ j) ⊎ ((k < j) ⊎ (j < k)) → k ≡ j
+    by_order (inl e) = e
+    by_order (inr (inl low)) = absurd (fails (above' k [] (omega arith) low))
+    by_order (inr (inr low)) = absurd (fails' (above j [] (omega arith) low))
+
+same_refusal : (k j : ℕ) (why other : CheckFault) → k ≡ j → why ≡ other → fault.Check k why ≡ fault.Check j other
+same_refusal k j why other e f = ap (λ (n : ℕ). fault.Check n why) e ∙ ap (λ (w : CheckFault). fault.Check j w) f
+
+one_check : (codes : List (List ℕ)) (k j : ℕ) (why other : CheckFault) → IsChecked codes k why → IsChecked codes j other → fault.Check k why ≡ fault.Check j other
+one_check codes k j (check.Word at f) (check.Word bt g) p q =
+    let e : k ≡ j =
+    same_place AllInProfile codes k j p.2 q.2 (λ inside. outside_no_more _ at f inside p.1) (λ inside. outside_no_more _ bt g inside q.1) in
+    same_refusal k j _ _ e (same_outside (code_at codes j) at bt f g (subst (λ (n : ℕ). IsFirstOutside (code_at codes n) at f) e p.1) q.1)
+one_check codes k j (check.Word at f) (check.Hazard rule bt before) p q = absurd (outside_no_more _ at f (q.1 k [] p.0) p.1)
+one_check codes k j (check.Hazard rule at before) (check.Word bt g) p q = absurd (outside_no_more _ bt g (p.1 j [] q.0) q.1)
+one_check codes k j (check.Hazard rule at before) (check.Hazard rule' bt before') p q =
+    let x : Hazard = hazard at rule before in
+    let y : Hazard = hazard bt rule' before' in
+    let e : k ≡ j =
+    same_place NoneRefusable codes k j p.3 q.3 (λ none. no_hazard _ x none p.2) (λ none. no_hazard _ y none q.2) in
+    let h : x ≡ y = same_hazard (code_at codes j) x y (subst (λ (n : ℕ). IsFirst (code_at codes n) x) e p.2) q.2 in
+    same_refusal k j _ _ e (ap (λ (h : Hazard). check.Hazard h.rule h.at h.before) h)
+one_check codes k j check.Memory other p q = absurd p
+one_check codes k j (check.Word at f) check.Memory p q = absurd q
+one_check codes k j (check.Hazard rule at before) check.Memory p q = absurd q
+
+one_due : (plan : Plan) (e f : JobFault) → Due plan e → Due plan f → e ≡ f
+one_due plan e f (by_text told is first) (by_text told' is' first') =
+    is ∙ (ap (λ (t : AsmFault). fault.Asm t) (first_one plan.programs told told' first first') ∙ sym is')
+one_due plan e f (by_text told is first) (by_check program why is' refused) = absurd (never_first plan.programs refused.codes told refused.built first)
+one_due plan e f (by_check program why is refused) (by_text told is' first) = absurd (never_first plan.programs refused.codes told refused.built first)
+one_due plan e f (by_check k why is p) (by_check j other is' q) =
+    let there : IsChecked q.codes k why = subst (λ (cs : List (List ℕ)). IsChecked cs k why) (codes_one plan.programs p.codes q.codes p.built q.built) p.first in
+    is ∙ (one_check q.codes k j why other there q.first ∙ sym is')
+
+pub one_refusal : OneRefusal
+one_refusal plan e f p q apart apart' = one_due plan e f (due plan e p apart) (due plan f q apart')

@@ -7,7 +7,6 @@ use Rattle.qpu_hazard.specs.declared.checked.CheckFault.{CheckFault}
 use Rattle.qpu_hazard.specs.declared.checked.CheckFault.TheVariants as check
 use Rattle.qpu_hazard.specs.Refusal.{IsFirst, NoneRefusable}
 use Rattle.qpu_hazard.specs.Faults.{IsCheckFault}
-use Rattle.qpu_machine.specs.declared.start.Start.{Start}
 use Rattle.qpu_machine.specs.Machine.{MachineState, machine_of}
 use Rattle.qpu_machine.specs.Views.{Started}
 use Rattle.qpu_job.specs.declared.job.Value.{Value}
@@ -54,7 +53,7 @@ pub record Opens (plan : Plan) (machine : Started) : Type 0 where
 abbrev pub code_at : List (List ℕ) → ℕ → List ℕ
 code_at codes k = slice_index_or codes k []
 
--- what the checker says of a program, where all programs are built: words outside the profile come
+-- what the checker says of a program, where all programs are assembled: words outside the profile come
 -- before hazards
 abbrev pub IsChecked : List (List ℕ) → ℕ → CheckFault → Type 0
 IsChecked codes program (check.Word at fault) =
@@ -78,7 +77,7 @@ IsCheckOf index code (fault.Check program refused) = (program ≡ index) × IsCh
 IsCheckOf index code fault.Memory = Unit {0}
 IsCheckOf index code _ = ⊥
 
--- the programs of a job are built, and one of them is refused
+-- the programs of a job are assembled, and one of them is refused
 pub record IsRefused (plan : Plan) (program : ℕ) (fault : CheckFault) : Type 0 where
   pub codes : List (List ℕ)
   pub built : HaveCodes plan.programs codes
@@ -86,7 +85,7 @@ pub record IsRefused (plan : Plan) (program : ℕ) (fault : CheckFault) : Type 0
 
 -- why a job has no machine; want of memory is free
 abbrev pub IsMakeFault : Plan → JobFault → Type 0
-IsMakeFault plan (fault.NotBuilt line) = IsCodesFault plan.programs (fault.NotBuilt line)
+IsMakeFault plan (fault.Asm told) = IsCodesFault plan.programs (fault.Asm told)
 IsMakeFault plan (fault.Check program refused) = IsRefused plan program refused
 IsMakeFault plan fault.Memory = Unit {0}
 IsMakeFault plan _ = ⊥

@@ -84,6 +84,6 @@ Goes next (Err fault) due = Fails fault due
 
 -- the faults that reading tells
 abbrev pub IsReadFault : JobFault → Type 0
-IsReadFault (fault.NotBuilt number) = ⊥
+IsReadFault (fault.Asm told) = ⊥
 IsReadFault (fault.Check program check) = ⊥
 IsReadFault other = Unit {0}

@@ -1,18 +1,17 @@
 //! The words of a job's programs.
-ghost use Rattle.std.specs.Prelude.{◌≡◌, ◌≤◌, ◌++◌, ◌∷◌, [], length, map, string_bytes, IfOk, IfErr, OnOk};
+ghost use Rattle.std.specs.Prelude.{◌≡◌, ◌≤◌, length, IfOk, IfErr};
 ghost use Rattle.std.specs.List.{All};
-ghost use Rattle.qpu_word.specs.declared.code.TheConstants.{PROGRAM_WORDS};
 ghost use Rattle.qpu_flow.specs.Code.{numbers_of};
 ghost use Rattle.qpu_job.specs.Plan.{program_of, programs_of};
 ghost use Rattle.qpu_job.specs.ReadJob.{IsProgram};
-ghost use Rattle.qpu_job.specs.Programs.{IsCode, IsCodeFault, HaveCodes, IsCodesFault, Takes, Refuses, codes_of};
+ghost use Rattle.qpu_job.specs.Programs.{line_in_job, fault_in_job, IsCode, IsCodeFault, HaveCodes, IsCodesFault, codes_of};
+ghost use Rattle.qpu_job.specs.Opening.{IsShort};
 
 use crate::fault::JobFault;
-use crate::job::{MOST_TEXT, ProgramText};
-use crate::line::first_line;
-use crate::said::{Said, read_line};
+use crate::job::ProgramText;
+use qpu_asm::assemble;
+use qpu_token::{AsmFault, AsmKind};
 use qpu_word::Word;
-use qpu_word::code::PROGRAM_WORDS;
 use std::alloc::Global;
 
 /// The words of a program.
@@ -22,56 +21,47 @@ pub(crate) struct Code {
     pub(crate) words: Vec<Word>,
 }
 
-/// Puts what a line says behind the words above it.
-fn put_said(words: &mut Vec<Word>, said: Said, line: u32) -> Result<(), JobFault>
-    requires { length words.old.items ≤ PROGRAM_WORDS }
-    ensures taken { OnOk result (Takes said (numbers_of words.old.items) (numbers_of words.new.items)) }
-    ensures refused { IfErr result (λ fault. Refuses said line (numbers_of words.old.items) fault) }
+/// The job's line of a line of a text that begins at this line of the job, where all count from 1.
+fn line_in_job(first: u32, line: u32) -> u32
+    ensures { result ≡ line_in_job first line }
 {
-    match said {
-        Said::Nothing => Ok(()),
-        Said::Other => Err(JobFault::NotBuilt(line)),
-        Said::Word(word) => {
-            if words.len() >= PROGRAM_WORDS as usize {
-                return Err(JobFault::NotBuilt(line));
-            }
-            match words.push(word) {
-                Ok(()) => Ok(()),
-                Err(_) => Err(JobFault::Memory),
-            }
-        }
+    first.saturating_add(line.saturating_sub(1))
+}
+
+/// The fault of a text that begins at this line of the job, with its line in the job.
+fn fault_in_job(first: u32, own: AsmFault) -> AsmFault
+    ensures { result ≡ fault_in_job first own }
+{
+    AsmFault {
+        kind: own.kind,
+        line: line_in_job(first, own.line),
+        column: own.column,
     }
 }
 
-/// The words of a program. The one error beside want of memory is `NotBuilt`, at the first line that
-/// is neither a word as a number, nor empty, nor a comment, or that is the 4,097th word.
+/// The words of a program. The one error beside want of memory is `Asm`.
 fn read_code(alloc: Global, program: &ProgramText) -> Result<Code, JobFault>
     requires { IsProgram (program_of program.now) }
     ensures ok { IfOk result (λ code. IsCode (program_of program.now).text (numbers_of code.words.items)) }
+    ensures short { IfOk result (λ code. IsShort (numbers_of code.words.items)) }
     ensures err { IfErr result (λ fault. IsCodeFault (program_of program.now) fault) }
 {
-    let mut words = Vec::new(alloc);
-    let mut rest = program.text.as_str();
-    let mut line = program.line;
-    loop {
-        match first_line(rest) {
-            None => return Ok(Code { words }),
-            Some((text, behind)) => {
-                let Ok(said) = read_line(alloc, text) else {
-                    return Err(JobFault::Memory);
-                };
-                put_said(&mut words, said, line)?;
-                rest = behind;
-                line += 1;
+    match assemble(alloc, program.text.as_str()) {
+        Ok(words) => Ok(Code { words }),
+        Err(own) => {
+            if own.kind == AsmKind::Memory {
+                return Err(JobFault::Memory);
             }
+            Err(JobFault::Asm(fault_in_job(program.line, own)))
         }
     }
 }
 
-/// The words of each program, or the first fault.
+/// The words of each program, or the fault of the first that isn't assembled.
 pub(crate) fn read_codes(alloc: Global, programs: &[ProgramText]) -> Result<Vec<Code>, JobFault>
     requires { All IsProgram (programs_of programs.now) }
     ensures ok { IfOk result (λ codes. HaveCodes (programs_of programs.now) (codes_of codes.items)) }
+    ensures short { IfOk result (λ codes. All IsShort (codes_of codes.items)) }
     ensures err { IfErr result (λ fault. IsCodesFault (programs_of programs.now) fault) }
 {
     let mut codes = Vec::new(alloc);

@@ -4,6 +4,7 @@ ghost use Rattle.std.specs.Prelude.{◌≡◌};
 ghost use Rattle.qpu_job.specs.declared.fault.JobFault.TheVariants.{Memory};
 
 use qpu_hazard::CheckFault;
+use qpu_token::AsmFault;
 use qpu_word::NoMemory;
 
 /// Why a text is no job, or why there is no machine for a job. Lines count from 1. The first
@@ -25,8 +26,9 @@ pub enum JobFault {
     NoProgram(u32),
     /// The address is no multiple of 4, or a value lies outside memory.
     Place(u32),
-    /// A line of a program is neither a word as a number, nor empty, nor a comment.
-    NotBuilt(u32),
+    /// A program isn't assembled: the fault of its text, with its line in the job. It is never want of
+    /// memory.
+    Asm(AsmFault),
     /// The words of a program are refused.
     Check {
         /// The program's index.

@@ -1,7 +1,7 @@
 //! Laws of what jobs are.
 
 ghost use Rattle.qpu_job.specs.Grammar.{ReadsJobsAlone, ReadsEveryJob};
-ghost use Rattle.qpu_job.specs.OneMachine.{CleanJobsAreAccepted};
+ghost use Rattle.qpu_job.specs.OneMachine.{CleanJobsAreAccepted, OneRefusal};
 
 /// The texts that are read as jobs are exactly those of the grammar, each with the one plan that it
 /// asks for.
@@ -10,9 +10,15 @@ pub fn reads_the_grammar()
     ensures every { ReadsEveryJob }
 {}
 
-/// A law: a job whose programs are built, with all words in the profile and no path that breaks a
+/// A law: a job whose programs are assembled, with all words in the profile and no path that breaks a
 /// hazard rule, is refused for none of its faults.
 #[tactic(auto, using(crate::proofs::OneMachineLaw::clean_jobs))]
 pub fn clean_jobs_are_accepted()
     ensures { CleanJobsAreAccepted }
+{}
+
+/// A law: `make_machine` has one refusal of a job at most. Which programs aren't assembled, are
+/// outside the profile or break a hazard rule, and where first, leaves no choice.
+pub fn one_refusal()
+    ensures { OneRefusal }
 {}

@@ -4,7 +4,8 @@
 //! `read_job` reads its text, and answers a text that is none with the first failing line. The
 //! texts that it takes are exactly those of a grammar (specs/Grammar), and each job that it answers
 //! keeps the bounds on its parts (specs/ReadJob). Programs are taken as they stand: reading doesn't
-//! judge them.
+//! judge them. `make_machine` assembles and checks them, and answers the machine that the job
+//! describes, or the first refusal (specs/Opening).
 #![tactic(auto)]
 
 mod above;
@@ -20,7 +21,6 @@ mod line;
 mod making;
 mod number;
 mod reading;
-mod said;
 mod shape;
 mod stage;
 mod word;
@@ -30,7 +30,7 @@ pub use job::{
     Job, MOST_LIMIT, MOST_MEMORY, MOST_NAME, MOST_PROGRAMS, MOST_TEXT, PROCESSORS, ProgramText,
     Value,
 };
-pub use laws::{clean_jobs_are_accepted, reads_the_grammar};
+pub use laws::{clean_jobs_are_accepted, one_refusal, reads_the_grammar};
 pub use making::make_machine;
 pub use reading::read_job;
 

@@ -61,8 +61,9 @@ fn shared(alloc: Global, programs: Programs) -> Result<Arc<Programs>, NoMemory>
 /// no path of which breaks a hazard rule; its memory with its values; its processors at word 0.
 ///
 /// The job keeps the bounds on its parts, as each that `read_job` answers does. All programs are
-/// read before any is checked: `NotBuilt` tells the first line that isn't read. Then come words
-/// outside the profile, and then hazards, each of the first program that has one: `Check`.
+/// assembled before any is checked: `Asm` tells the fault of the first that isn't assembled, with its
+/// line in the job. Then come words outside the profile, and then hazards, each of the first program
+/// that has one: `Check`. Want of memory is `Memory` wherever it comes.
 pub fn make_machine(alloc: Global, job: &Job) -> Result<Machine, JobFault>
     requires { IsReadJob (plan_of job.now) }
     ensures ok { IfOk result (λ machine. Opens (plan_of job.now) machine) }
@@ -73,3 +74,6 @@ pub fn make_machine(alloc: Global, job: &Job) -> Result<Machine, JobFault>
     let memory = memory_of(alloc, job.words, &job.values)?;
     Ok(Machine::new(memory, job.limit, programs, starts_of(&job.starts)))
 }
+
+#[cfg(test)]
+mod tests;

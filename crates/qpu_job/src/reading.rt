@@ -18,7 +18,7 @@ use qpu_word::NoMemory;
 use std::alloc::Global;
 
 /// The job of a text of at most `MOST_TEXT` bytes. The one error beside want of memory is the fault
-/// of the first failing line, or that the text ends too early: any kind but `NotBuilt` and `Check`.
+/// of the first failing line, or that the text ends too early: any kind but `Asm` and `Check`.
 #[tactic(auto, unfolding(crate::specs::Reading::job_of))]
 pub fn read_job(alloc: Global, text: &str) -> Result<Job, JobFault>
     requires { length text.now ≤ MOST_TEXT }

@@ -5,7 +5,7 @@ use Rattle.qpu_hazard.specs.declared.checked.Programs.{Programs}
 use Rattle.qpu_job.specs.Plan.{plan_of}
 use Rattle.qpu_job.specs.Programs.{HaveCodes, codes_of}
 use Rattle.qpu_job.specs.Opening.{memory_of, opening_machine}
-use Rattle.qpu_job.proofs.CodeLemmas.{have_length, have_short}
+use Rattle.qpu_job.proofs.CodeLemmas.{have_length}
 use Rattle.qpu_job.proofs.CheckLemmas.{length_codes}
 use Rattle.qpu_job.proofs.StartLemmas.{few_starts, starts_differ}
 use Rattle.qpu_job.proofs.making.make_machine.Goals as goal
@@ -18,7 +18,7 @@ check_programs-requires-clause-few c =
 
 pub check_programs-requires-clause-short : goal.check_programs-requires-clause-short
 check_programs-requires-clause-short c =
-    rw c.deref-2.ensures.value (have_short c.in_ok-codes.ensures.ok)
+    rw c.deref-2.ensures.value c.in_ok-codes.ensures.short
 
 pub starts_of-requires : goal.starts_of-requires
 starts_of-requires c = rw c.deref-4.ensures.value (few_starts (plan_of c.args.job.now) c.requires)
