@@ -18,3 +18,6 @@ pub use laws::spells_one_schedule;
 pub use parts::{MOST_TEXT, RecordParts};
 pub use reading::read_record;
 pub use writing::write_record;
+
+#[cfg(test)]
+mod tests;
