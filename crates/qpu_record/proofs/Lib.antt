@@ -4,3 +4,7 @@ pub mod MergedLemmas
 pub mod LineLemmas
 pub mod ItemLemmas
 pub mod ReadLemmas
+pub mod GrammarLemmas
+pub mod GrammarOnly
+pub mod FoundLemmas
+pub mod GrammarFound
