@@ -7,8 +7,9 @@ use qpu_hazard::CheckFault;
 use qpu_token::AsmFault;
 use qpu_word::NoMemory;
 
-/// Why a text is no job, or why there is no machine for a job. Lines count from 1. The first
-/// failing line is told, and in it the first of the order in which the causes stand here.
+/// Why a text is no job, or why there is no machine for a job. Lines count from 1. Of a text that is
+/// no job the first failing line is told, and in it the first of the order in which the causes stand
+/// here; `Asm` and `Check` are of jobs that were read.
 #[derive(Clone, Copy, Debug, PartialEq, Eq)]
 pub enum JobFault {
     /// The line has no shape that stands there, or a number of 2^32 or more; or the text ends

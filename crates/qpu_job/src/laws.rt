@@ -17,8 +17,8 @@ pub fn clean_jobs_are_accepted()
     ensures { CleanJobsAreAccepted }
 {}
 
-/// A law: `make_machine` has one refusal of a job at most. Which programs aren't assembled, are
-/// outside the profile or break a hazard rule, and where first, leaves no choice.
+/// A law: of one job one refusal at most is due, want of memory aside, so what `make_machine` tells
+/// leaves no choice.
 pub fn one_refusal()
     ensures { OneRefusal }
 {}

@@ -37,7 +37,7 @@ fn programs_are_assembled(rt: HostRuntime) {
 }
 
 /// Jobs, and the kind, line and column of the fault that a program's text has.
-const TEXTS: [(&str, AsmKind, u32, u32); 7] = [
+const TEXTS: [(&str, AsmKind, u32, u32); 8] = [
     (
         "qpujob 1\nmemory 1\nlimit 10\nprogram a\nnop; thrend\nnop\nnop\nendprogram\nprogram b\nnop\n  frob r0\nendprogram\n",
         AsmKind::UnknownOp,
@@ -79,6 +79,12 @@ const TEXTS: [(&str, AsmKind, u32, u32); 7] = [
         AsmKind::UnknownOp,
         5,
         1,
+    ),
+    (
+        "qpujob 1\nmemory 1\nlimit 10\nprogram a\n.rep 4096\nnop\n.endr\n\tnop\nendprogram\n",
+        AsmKind::TooLong,
+        8,
+        2,
     ),
 ];
 
