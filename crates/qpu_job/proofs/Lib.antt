@@ -12,3 +12,4 @@ pub mod CheckLemmas
 pub mod StartLemmas
 pub mod OneCode
 pub mod OneMachineLaw
+pub mod MayOpenLaw

@@ -10,3 +10,4 @@ pub mod Programs
 pub mod Opening
 pub mod Grammar
 pub mod OneMachine
+pub mod MayOpen

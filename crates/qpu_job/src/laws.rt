@@ -1,6 +1,7 @@
 //! Laws of what jobs are.
 
 ghost use Rattle.qpu_job.specs.Grammar.{ReadsJobsAlone, ReadsEveryJob};
+ghost use Rattle.qpu_job.specs.MayOpen.{ReadJobsKeep, ReadJobsMayOpen};
 ghost use Rattle.qpu_job.specs.OneMachine.{CleanJobsAreAccepted, OneRefusal};
 
 /// The texts that are read as jobs are exactly those of the grammar, each with the one plan that it
@@ -21,4 +22,12 @@ pub fn clean_jobs_are_accepted()
 /// leaves no choice.
 pub fn one_refusal()
     ensures { OneRefusal }
+{}
+
+/// A law: what is read as a job keeps the bounds on its parts, and where its programs are assembled
+/// and clean its machine may open: starts of different processors and of programs that are there, no
+/// path of which breaks a rule.
+pub fn read_jobs_may_open()
+    ensures keeps { ReadJobsKeep }
+    ensures opens { ReadJobsMayOpen }
 {}

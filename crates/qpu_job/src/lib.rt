@@ -30,7 +30,7 @@ pub use job::{
     Job, MOST_LIMIT, MOST_MEMORY, MOST_NAME, MOST_PROGRAMS, MOST_TEXT, PROCESSORS, ProgramText,
     Value,
 };
-pub use laws::{clean_jobs_are_accepted, one_refusal, reads_the_grammar};
+pub use laws::{clean_jobs_are_accepted, one_refusal, read_jobs_may_open, reads_the_grammar};
 pub use making::make_machine;
 pub use reading::read_job;
 
