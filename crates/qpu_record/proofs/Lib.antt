@@ -1,3 +1,6 @@
 pub mod Apart
 pub mod EndLemmas
 pub mod MergedLemmas
+pub mod LineLemmas
+pub mod ItemLemmas
+pub mod ReadLemmas

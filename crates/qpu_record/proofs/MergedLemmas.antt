@@ -4,7 +4,6 @@ use Rattle.qpu_machine.specs.declared.actor.Actor.{Actor}
 use Rattle.qpu_machine.specs.declared.journal.Run.{Run}
 use Rattle.qpu_machine.specs.Journal.{IsMerged, is_same_actor, steps_of}
 use Rattle.qpu_machine.proofs.JournalLemmas.{is_same, not_of}
-use Rattle.qpu_io.specs.Text.{in_turn}
 use Rattle.qpu_record.specs.Record.{with_step, merged, record_text, runs_text}
 
 -- the first of these runs, where there is one, is of another actor

@@ -1,2 +1,7 @@
 pub mod Record
 pub mod Apart
+pub mod Lines
+pub mod Numbers
+pub mod Items
+pub mod Heading
+pub mod Reading

@@ -55,7 +55,7 @@ fn put_missing_line_end<K: Sink>(job: &[u8], sink: &mut K) -> Result<(), SinkFai
 }
 
 #[tactic(auto, using(crate::proofs::EndLemmas::ends_line_last))]
-fn ends_line(job: &[u8]) -> bool
+pub(crate) fn ends_line(job: &[u8]) -> bool
     ensures { result ≡ ends_line job.now }
 {
     match job {

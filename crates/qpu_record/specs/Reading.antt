@@ -1,0 +1,79 @@
+-- What a record has, or its first fault, line after line. This project's own.
+use Rattle.std.specs.Prelude.{◌≡◌, ℕ, ◌+◌, Bool, List, [], ◌∷◌, ◌++◌, codes, bytes_eq, string_bytes, Result, Ok, Err, if◌then◌else◌}
+use Rattle.qpu_machine.specs.declared.journal.Run.{Run}
+use Rattle.qpu_machine.specs.Journal.{pushed}
+use Rattle.qpu_record.specs.declared.fault.RecordFault.{RecordFault}
+use Rattle.qpu_record.specs.declared.fault.RecordFault.TheVariants as fault
+use Rattle.qpu_record.specs.declared.parts.RecordParts.{RecordParts}
+use Rattle.qpu_record.specs.declared.reading.Schedule.{Schedule as Told}
+use Rattle.qpu_record.specs.Lines.{is_lf}
+use Rattle.qpu_record.specs.Items.{item_at}
+use Rattle.qpu_record.specs.Heading.{Heading, heading_of, and_then}
+
+-- the items put together, what stands behind the record, and the line with which that begins
+pub record Schedule : Type 0 where
+  pub runs : List Run
+  pub rest : List ℕ
+  pub rest_line : ℕ
+
+-- what a record has
+pub record Parts : Type 0 where
+  pub job : List ℕ
+  pub runs : List Run
+  pub rest : List ℕ
+  pub rest_line : ℕ
+
+-- the line that ends a record
+abbrev pub is_end : List ℕ → Bool
+is_end line = bytes_eq line (codes "endrecord")
+
+abbrev pub ended : ℕ → List Run → List ℕ → Result Schedule RecordFault
+ended number runs rest = Ok (record { runs = runs; rest = rest; rest_line = number + 1 })
+
+-- an item that no line feed ends fails as a line
+abbrev pub open_item : ℕ → Run → Result Schedule RecordFault
+open_item number run = Err (fault.Line number)
+
+-- the schedule from a line of this number on: the runs above it, and of the line what is read so far
+unfoldable pub schedule_of : ℕ → List Run → List ℕ → List ℕ → Result Schedule RecordFault
+schedule_of number runs line [] =
+    if is_end line then ended number runs [] else and_then (item_at number line) (open_item number)
+schedule_of number runs line (byte ∷ text) =
+    if is_lf byte then
+    (if is_end line then ended number runs text
+    else and_then (item_at number line) (λ run. schedule_of (number + 1) (pushed runs run.actor run.count) [] text))
+    else schedule_of number runs (line ++ byte ∷ []) text
+
+abbrev pub with_job : List ℕ → Schedule → Parts
+with_job job schedule =
+    record { job = job; runs = schedule.runs; rest = schedule.rest; rest_line = schedule.rest_line }
+
+abbrev pub after_heading : Heading → Result Parts RecordFault
+after_heading heading =
+    and_then (schedule_of heading.number [] [] heading.rest) (λ schedule. Ok (with_job heading.job schedule))
+
+-- what a record has, or its first fault
+unfoldable pub record_of : List ℕ → Result Parts RecordFault
+record_of text = and_then (heading_of text) after_heading
+
+-- a call answered what is due, seen without where it lies in memory; want of memory is free
+
+abbrev pub Fails : {Y : Type 0} → RecordFault → Result Y RecordFault → Type 0
+Fails fault.Memory due = Unit {0}
+Fails other due = due ≡ Err other
+
+abbrev pub Gives : {X Y : Type 0} → (X → Y) → Result X RecordFault → Result Y RecordFault → Type 0
+Gives view (Ok x) due = due ≡ Ok (view x)
+Gives view (Err fault) due = Fails fault due
+
+abbrev pub parts_of : RecordParts → Parts
+parts_of parts = record {
+  job = string_bytes parts.job;
+  runs = parts.journal;
+  rest = string_bytes parts.rest;
+  rest_line = parts.rest_line;
+}
+
+abbrev pub schedule_told : Told → Schedule
+schedule_told schedule =
+    record { runs = schedule.journal; rest = schedule.rest.now; rest_line = schedule.rest_line }

@@ -1,0 +1,261 @@
+use crate::{MOST_TEXT, RecordFault, RecordParts, read_record};
+use qpu_machine::{Actor, Run};
+use std::alloc::Global;
+use std::test::Fail;
+
+// The texts of these tests are short.
+fn read(alloc: Global, text: &str) -> Result<RecordParts, RecordFault> {
+    if text.len() > MOST_TEXT {
+        return Err(RecordFault::Memory);
+    }
+    read_record(alloc, text)
+}
+
+fn fails(alloc: Global, text: &str, fault: RecordFault) -> bool {
+    match read(alloc, text) {
+        Ok(_) => false,
+        Err(told) => told == fault,
+    }
+}
+
+const WHOLE: &str =
+    "qpurecord 1\njob 9\nqpujob\n12\nschedule\nq 0 4\nq 0 1000000\nl 11 1\ns 3 2\nt 5 1 3\nt 5 0 1\nt 5 0 1\nq 0 1\nendrecord\nreport\nend";
+
+#[test]
+fn a_whole_record(rt: HostRuntime) -> Result<(), Fail> {
+    let parts = read(rt.alloc(), WHOLE).ok().ok_or("the text has a record")?;
+    assert!(rt; parts.job.as_str() == "qpujob\n12");
+    assert!(rt; parts.rest.as_str() == "report\nend");
+    assert!(rt; parts.rest_line == 15);
+    let runs = [
+        (Actor::Exec(0), 1_000_004),
+        (Actor::Load(11), 1),
+        (Actor::Store(3), 2),
+        (Actor::Fetch(5, 1), 3),
+        (Actor::Fetch(5, 0), 2),
+        (Actor::Exec(0), 1),
+    ];
+    assert!(rt; parts.journal.runs().len() == runs.len());
+    for (run, (actor, count)) in parts.journal.runs().iter().zip(runs.iter()) {
+        let expected = Run {
+            actor: *actor,
+            count: *count,
+        };
+        assert!(rt; *run == expected);
+    }
+    Ok(())
+}
+
+// The job, how many runs, the rest and its line.
+const ACCEPTED: [(&str, &str, usize, &str, u32); 8] = [
+    (
+        "qpurecord 1\njob 1\na\nschedule\nendrecord\n",
+        "a",
+        0,
+        "",
+        6,
+    ),
+    (
+        "qpurecord 1\njob 2\na\nschedule\nendrecord",
+        "a\n",
+        0,
+        "",
+        6,
+    ),
+    ("qpurecord 1\njob 0\n\nschedule\nendrecord\n", "", 0, "", 6),
+    (
+        "qpurecord 1\njob 1\n\nschedule\nendrecord\n\n",
+        "\n",
+        0,
+        "\n",
+        6,
+    ),
+    (
+        "qpurecord 1\njob 18\nschedule\nendrecord\nschedule\nq 11 1\nendrecord\nq",
+        "schedule\nendrecord",
+        1,
+        "q",
+        8,
+    ),
+    (
+        "qpurecord 1\njob 2\n\r\nschedule\nt 0 0 1\nt 0 1 1\nt 0 1 9\nendrecord\nendrecord\n",
+        "\r\n",
+        2,
+        "endrecord\n",
+        9,
+    ),
+    (
+        "qpurecord 1\njob 2\nä\nschedule\nq 1 1\nl 1 1\ns 1 1\nq 1 1\nendrecord\nä",
+        "ä",
+        4,
+        "ä",
+        10,
+    ),
+    (
+        "qpurecord 1\njob 3\n\n\n\nschedule\nq 0 1\nq 1 1\nendrecord\n",
+        "\n\n\n",
+        2,
+        "",
+        10,
+    ),
+];
+
+#[test]
+fn records_are_accepted(rt: HostRuntime) -> Result<(), Fail> {
+    for (text, job, runs, rest, line) in &ACCEPTED {
+        let parts = read(rt.alloc(), *text)
+            .ok()
+            .ok_or("each text has a record")?;
+        assert!(rt; parts.job.as_str() == *job, "{text}");
+        assert!(rt; parts.journal.runs().len() == *runs, "{text}");
+        assert!(rt; parts.rest.as_str() == *rest, "{text}");
+        assert!(rt; parts.rest_line == *line, "{text}");
+    }
+    Ok(())
+}
+
+const HEADINGS: [(&str, RecordFault); 12] = [
+    ("", RecordFault::Line(1)),
+    ("qpurecord", RecordFault::Line(1)),
+    ("qpurecord\n", RecordFault::Line(1)),
+    ("\nqpurecord 1\n", RecordFault::Line(1)),
+    ("Qpurecord 1\n", RecordFault::Line(1)),
+    ("qpurecord 1", RecordFault::Line(1)),
+    ("qpurecord ", RecordFault::Version),
+    ("qpurecord 9", RecordFault::Version),
+    ("qpurecord 01\njob 0\n", RecordFault::Version),
+    ("qpurecord 1 \njob 0\n", RecordFault::Version),
+    ("qpurecord 1\r\njob 0\n", RecordFault::Version),
+    ("qpurecord 10\n", RecordFault::Version),
+];
+
+#[test]
+fn versions_are_told(rt: HostRuntime) {
+    for (text, fault) in &HEADINGS {
+        assert!(rt; fails(rt.alloc(), *text, *fault), "{text}");
+    }
+}
+
+const SIZES: [(&str, RecordFault); 12] = [
+    ("qpurecord 1\n", RecordFault::Line(2)),
+    ("qpurecord 1\njob 0", RecordFault::Line(2)),
+    ("qpurecord 1\njob \n\n", RecordFault::Line(2)),
+    ("qpurecord 1\njob 01\na\n", RecordFault::Line(2)),
+    ("qpurecord 1\njob 00\n\n", RecordFault::Line(2)),
+    ("qpurecord 1\njob 1 \na\n", RecordFault::Line(2)),
+    ("qpurecord 1\njob +1\na\n", RecordFault::Line(2)),
+    ("qpurecord 1\njob 1\r\na\n", RecordFault::Line(2)),
+    ("qpurecord 1\njob 2\na", RecordFault::Line(2)),
+    ("qpurecord 1\njob 1\n", RecordFault::Line(2)),
+    (
+        "qpurecord 1\njob 18446744073709551617\na\nschedule\nendrecord\n",
+        RecordFault::Line(2),
+    ),
+    ("qpurecord 1\nJob 1\na\n", RecordFault::Line(2)),
+];
+
+#[test]
+fn sizes_are_told(rt: HostRuntime) {
+    for (text, fault) in &SIZES {
+        assert!(rt; fails(rt.alloc(), *text, *fault), "{text}");
+    }
+}
+
+const JOBS: [(&str, RecordFault); 12] = [
+    ("qpurecord 1\njob 0\n", RecordFault::Line(3)),
+    ("qpurecord 1\njob 0\nschedule\n", RecordFault::Line(3)),
+    ("qpurecord 1\njob 1\na", RecordFault::Line(3)),
+    ("qpurecord 1\njob 1\nab\nschedule\n", RecordFault::Line(3)),
+    ("qpurecord 1\njob 1\na\r\nschedule\n", RecordFault::Line(3)),
+    ("qpurecord 1\njob 4\na\nb\nc", RecordFault::Line(5)),
+    ("qpurecord 1\njob 3\na\nb\nc", RecordFault::Line(5)),
+    ("qpurecord 1\njob 3\na\nbc\n", RecordFault::Line(4)),
+    ("qpurecord 1\njob 2\na\n", RecordFault::Line(4)),
+    (
+        "qpurecord 1\njob 2\na\n\nschedule\nendrecord\n",
+        RecordFault::Line(4),
+    ),
+    (
+        "qpurecord 1\njob 1\nä\nschedule\nendrecord\n",
+        RecordFault::Line(3),
+    ),
+    ("qpurecord 1\njob 1\na\n", RecordFault::Line(4)),
+];
+
+#[test]
+fn jobs_end_in_their_own_line(rt: HostRuntime) {
+    for (text, fault) in &JOBS {
+        assert!(rt; fails(rt.alloc(), *text, *fault), "{text}");
+    }
+}
+
+const HEAD: &str = "qpurecord 1\njob 4\na\nb\nschedule\n";
+
+// What follows the line `schedule`, which is the fifth.
+const ITEMS: [(&str, RecordFault); 12] = [
+    ("", RecordFault::Line(6)),
+    ("endrecord\r\n", RecordFault::Line(6)),
+    ("endrecord ", RecordFault::Line(6)),
+    ("q 0 4\nendrecor", RecordFault::Line(7)),
+    ("q 0 4\n\nendrecord\n", RecordFault::Line(7)),
+    ("q 0 4\n", RecordFault::Line(7)),
+    ("q 0 4", RecordFault::Line(6)),
+    ("q 0 4\r\n", RecordFault::Line(6)),
+    ("q 00 4\n", RecordFault::Line(6)),
+    ("q 0 04\n", RecordFault::Line(6)),
+    ("q 0 4 \n", RecordFault::Line(6)),
+    ("q  0 4\n", RecordFault::Line(6)),
+];
+
+const NUMBERS: [(&str, RecordFault); 12] = [
+    ("q 12 4\n", RecordFault::Number(6)),
+    ("q 12 4", RecordFault::Number(6)),
+    ("q 0 0\n", RecordFault::Number(6)),
+    ("s 0 1000001\n", RecordFault::Number(6)),
+    ("l 99999999999999999999999 1\n", RecordFault::Number(6)),
+    ("q 0 1\nq 0 18446744073709551617\n", RecordFault::Number(7)),
+    ("t 0 2 1\n", RecordFault::Number(6)),
+    ("t 12 0 1\n", RecordFault::Number(6)),
+    ("t 0 0 0", RecordFault::Number(6)),
+    ("t 0 1\n", RecordFault::Line(6)),
+    ("q 12 4 1\n", RecordFault::Line(6)),
+    ("x 12 4\n", RecordFault::Line(6)),
+];
+
+#[test]
+fn items_have_a_form_and_ranges(rt: HostRuntime) -> Result<(), Fail> {
+    for (items, fault) in ITEMS.iter().chain(NUMBERS.iter()) {
+        let mut text = String::from_str(rt.alloc(), HEAD)?;
+        text.push_str(items)?;
+        assert!(rt; fails(rt.alloc(), text.as_str(), *fault), "{items}");
+    }
+    Ok(())
+}
+
+const CUT: &str = "qpurecord 1\njob 1\na\nschedule\nq 0 4\nendrecord\n";
+
+// The first line that fails where the text has so many bytes, or none.
+fn failing_line(bytes: usize) -> Option<u32> {
+    match bytes {
+        10 => None,
+        0..=11 => Some(1),
+        12..=18 => Some(2),
+        19 => Some(3),
+        20..=28 => Some(4),
+        29..=34 => Some(5),
+        35..=43 => Some(6),
+        _ => None,
+    }
+}
+
+#[test]
+fn a_record_cut_after_each_byte(rt: HostRuntime) -> Result<(), Fail> {
+    for bytes in 0..=CUT.len() {
+        let text = CUT.get(..bytes).ok_or("the text is ASCII")?;
+        match failing_line(bytes) {
+            None => assert!(rt; bytes == 10 || read(rt.alloc(), text).is_ok(), "{bytes}"),
+            Some(line) => assert!(rt; fails(rt.alloc(), text, RecordFault::Line(line)), "{bytes}"),
+        }
+    }
+    Ok(())
+}
