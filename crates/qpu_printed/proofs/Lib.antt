@@ -1,0 +1,4 @@
+pub mod AsciiLemmas
+pub mod HighLemmas
+pub mod RecordAscii
+pub mod ReportAscii

@@ -1,0 +1,23 @@
+//! Laws of the texts of records and reports.
+
+ghost use Rattle.qpu_printed.specs.Ascii.{AsciiHasNoneAbove, NoneAboveIsAscii, RecordsAreAscii, ReportsAreAscii};
+
+/// A law: a text of ASCII has no byte above the last of ASCII.
+pub fn ascii_has_none_above()
+    ensures { AsciiHasNoneAbove }
+{}
+
+/// A law: a text that has no byte above the last of ASCII is ASCII.
+pub fn none_above_is_ascii()
+    ensures { NoneAboveIsAscii }
+{}
+
+/// A law: the record of a job in ASCII is ASCII, whatever schedule it has.
+pub fn records_are_ascii()
+    ensures { RecordsAreAscii }
+{}
+
+/// A law: the report of a machine is ASCII, whatever its state.
+pub fn reports_are_ascii()
+    ensures { ReportsAreAscii }
+{}
