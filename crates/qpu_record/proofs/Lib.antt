@@ -4,3 +4,5 @@ pub mod MergedLemmas
 pub mod LineLemmas
 pub mod ItemLemmas
 pub mod ReadLemmas
+pub mod GrammarLemmas
+pub mod GrammarOnly

@@ -21,13 +21,13 @@ none_first p xs h = grind (arith, nat_tests)
 
 -- cut at a place, and not cut
 
-abbrev cut_here : ℕ → List ℕ → Cut
+abbrev pub cut_here : ℕ → List ℕ → Cut
 cut_here at text = record { front = take at text; found = true; rest = drop (at + 1) text }
 
-abbrev uncut : List ℕ → Cut
+abbrev pub uncut : List ℕ → Cut
 uncut text = record { front = text; found = false; rest = [] }
 
-abbrev is_mark : ℕ → ℕ → Bool
+abbrev pub is_mark : ℕ → ℕ → Bool
 is_mark mark = λ (byte : ℕ). byte == mark
 
 place_behind : (mark byte : ℕ) (text : List ℕ) → is_mark mark byte ≡ false → position_or_len (is_mark mark) (byte ∷ text) ≡ suc (position_or_len (is_mark mark) text)

@@ -5,3 +5,4 @@ pub mod Numbers
 pub mod Items
 pub mod Heading
 pub mod Reading
+pub mod Grammar

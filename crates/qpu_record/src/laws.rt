@@ -1,7 +1,21 @@
+//! Laws of what records are.
+
 ghost use Rattle.qpu_record.specs.Apart.{SpellsOneSchedule};
+ghost use Rattle.qpu_record.specs.Grammar.{RecordsAreRead, ReadsEveryRecord};
 
 /// A law: a record spells one schedule, up to how neighbouring steps of one actor are counted.
 #[tactic(auto, using(crate::proofs::Apart::spells_one_schedule))]
 pub fn spells_one_schedule()
     ensures { SpellsOneSchedule }
+{}
+
+/// A law: a record that was written is read back, whatever follows it.
+#[tactic(auto, using(crate::proofs::GrammarOnly::records_are_read))]
+pub fn records_are_read()
+    ensures { RecordsAreRead }
+{}
+
+/// The texts that are read as records are exactly those of the grammar, each with what it has.
+pub fn reads_the_grammar()
+    ensures every { ReadsEveryRecord }
 {}
