@@ -2,3 +2,5 @@ pub mod AsciiLemmas
 pub mod HighLemmas
 pub mod RecordAscii
 pub mod ReportAscii
+pub mod SpellLemmas
+pub mod ItemLemmas

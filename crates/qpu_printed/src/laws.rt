@@ -1,6 +1,7 @@
 //! Laws of the texts of records and reports.
 
 ghost use Rattle.qpu_printed.specs.Ascii.{AsciiHasNoneAbove, NoneAboveIsAscii, RecordsAreAscii, ReportsAreAscii};
+ghost use Rattle.qpu_printed.specs.Items.{MergedSpells, SchedulesHaveItems};
 
 /// A law: a text of ASCII has no byte above the last of ASCII.
 pub fn ascii_has_none_above()
@@ -20,4 +21,15 @@ pub fn records_are_ascii()
 /// A law: the report of a machine is ASCII, whatever its state.
 pub fn reports_are_ascii()
     ensures { ReportsAreAscii }
+{}
+
+/// A law: a schedule with neighbouring steps of one actor put together spells the schedule.
+pub fn merged_schedules_spell()
+    ensures { MergedSpells }
+{}
+
+/// A law: what a schedule that is permitted from a machine before any step is put together to are
+/// items of a record: of processors and units that there are, and of no more steps than an item has.
+pub fn schedules_have_items()
+    ensures { SchedulesHaveItems }
 {}
