@@ -42,7 +42,7 @@ lacks_join mark xs ys a b = rw (list_any-append (is_mark mark) xs ys, a, b) refl
 
 -- numbers
 
-abbrev AreDigits : List ℕ → Type 0
+abbrev pub AreDigits : List ℕ → Type 0
 AreDigits digits = list_all is_digit digits ≡ true
 
 abbrev value_after : ℕ → List ℕ → ℕ

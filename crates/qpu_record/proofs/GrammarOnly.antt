@@ -46,7 +46,7 @@ schedule_read : (number : ℕ) (rest : List ℕ) → schedule_line number (codes
 unfolding schedule_line cut_at
 schedule_read number rest = refl
 
-abbrev line_of_items : List ℕ → ℕ
+abbrev pub line_of_items : List ℕ → ℕ
 line_of_items job = line_behind job + length (missing_line_end job) + 1
 
 heading_read : (job rest : List ℕ) → length job < 2 ^ 64
@@ -119,7 +119,7 @@ feeds_missing_by job false is = rw is refl
 feeds_size : (n : ℕ) → n < 2 ^ 64 → line_feeds (codes "job " ++ (decimal n ++ LF ∷ [])) ≡ 1
 feeds_size n fits = feeds_line (codes "job " ++ decimal n) [] (number_lacks LF n (omega arith) fits)
 
-feeds_front : (job : List ℕ) (items : List Run) → length job < 2 ^ 64 → AllByRecursion IsItem items → line_feeds (front_text job items) + 2 ≡ line_of_items job + length items + 1
+pub feeds_front : (job : List ℕ) (items : List Run) → length job < 2 ^ 64 → AllByRecursion IsItem items → line_feeds (front_text job items) + 2 ≡ line_of_items job + length items + 1
 unfolding front_text in_turn
 feeds_front job items fits ranges =
     let a = codes "qpurecord 1\n" in
@@ -149,7 +149,7 @@ regroup a b c d e f g r = simp append_assoc
 size_regroup : (n r : List ℕ) → (codes "job " ++ (n ++ LF ∷ [])) ++ r ≡ codes "job " ++ (n ++ LF ∷ r)
 size_regroup n r = simp append_assoc
 
-front_grouped : (job : List ℕ) (items : List Run) (behind : List ℕ) → front_text job items ++ behind
+pub front_grouped : (job : List ℕ) (items : List Run) (behind : List ℕ) → front_text job items ++ behind
     ≡ codes "qpurecord 1\n" ++ (codes "job " ++ (decimal (length job) ++ LF ∷ (job ++ (missing_line_end job ++ (codes "schedule\n" ++ (flat_map item_text items ++ (codes "endrecord" ++ behind)))))))
 unfolding front_text in_turn
 front_grouped job items behind =

@@ -6,3 +6,5 @@ pub mod ItemLemmas
 pub mod ReadLemmas
 pub mod GrammarLemmas
 pub mod GrammarOnly
+pub mod FoundLemmas
+pub mod GrammarFound

@@ -1,7 +1,7 @@
 //! Laws of what records are.
 
 ghost use Rattle.qpu_record.specs.Apart.{SpellsOneSchedule};
-ghost use Rattle.qpu_record.specs.Grammar.{RecordsAreRead, ReadsEveryRecord};
+ghost use Rattle.qpu_record.specs.Grammar.{RecordsAreRead, ReadsRecordsAlone, ReadsEveryRecord};
 
 /// A law: a record spells one schedule, up to how neighbouring steps of one actor are counted.
 #[tactic(auto, using(crate::proofs::Apart::spells_one_schedule))]
@@ -17,5 +17,6 @@ pub fn records_are_read()
 
 /// The texts that are read as records are exactly those of the grammar, each with what it has.
 pub fn reads_the_grammar()
+    ensures alone { ReadsRecordsAlone }
     ensures every { ReadsEveryRecord }
 {}

@@ -1,0 +1,280 @@
+-- What is read is a record.
+use Rattle.std.proofs.Common.{◌≡◌, ℕ, ◌+◌, ◌^◌, ◌<◌, ◌≤◌, Bool, true, false, List, [], ◌∷◌, ◌++◌, length, take, drop, Option, Some, None, Result, Ok, Err, refl, ap, sym, ◌∙◌, subst, arith, append_assoc, length-append, length-take, codes}
+use Rattle.std.specs.Prelude.{◌&&◌, nat_eq, nat_le, fold, flat_map, decimal, bytes_eq, option_and_then, if◌then◌else◌}
+use Rattle.std.specs.List.{starts_with, AllByRecursion}
+use Rattle.std.proofs.lemmas.Bool.{and_parts, eqb-true}
+use Rattle.std.proofs.lemmas.Bool.Decides.{nat_tests, Decides-eqb}
+use Rattle.std.proofs.lemmas.List.{take-append-drop}
+use Rattle.std.proofs.lemmas.Slice.Eq.{bytes_eq-Decides, starts_is}
+use Rattle.qpu_machine.specs.declared.journal.Run.{Run}
+use Rattle.qpu_record.specs.declared.fault.RecordFault.{RecordFault}
+use Rattle.qpu_record.specs.declared.fault.RecordFault.TheVariants as fault
+use Rattle.qpu_record.specs.Record.{item_text, ends_line, missing_line_end}
+use Rattle.qpu_record.specs.Lines.{LF, first_line, is_lf}
+use Rattle.qpu_record.specs.Numbers.{number_of}
+use Rattle.qpu_record.specs.Items.{item_at}
+use Rattle.qpu_record.specs.Heading.{Heading, and_then, or_line, that_fit, line_behind, begins_lf, opening, size_line, job_part, schedule_line, with_schedule, with_job, heading_of}
+use Rattle.qpu_record.specs.Reading.{Schedule, Parts, is_end, ended, open_item, schedule_of, after_heading, record_of}
+use Rattle.qpu_record.specs.Reading.{with_job as in_parts}
+use Rattle.qpu_record.specs.Grammar.{IsItem, put, IsBehind, nothing, line_end, IsRecord, ReadsRecordsAlone}
+use Rattle.qpu_record.proofs.GrammarLemmas.{item_ends}
+use Rattle.qpu_record.proofs.GrammarOnly.{front_grouped, feeds_front, line_of_items}
+use Rattle.qpu_record.proofs.FoundLemmas.{cut_found, number_found, IsLineOfItem, item_found}
+
+goes_on : {A B : Type 0} (r : Result A RecordFault) (f : A → Result B RecordFault) (b : B) → and_then r f ≡ Ok b → (a : A) × (r ≡ Ok a) × (f a ≡ Ok b)
+goes_on (Ok a) f b e = (a, refl, e)
+goes_on (Err fault) f b e = absurd (cc)
+
+-- a line of given bytes
+line_of : (text word : List ℕ) → bytes_eq (first_line text).front word ≡ true → (first_line text).found ≡ true → text ≡ word ++ LF ∷ (first_line text).rest
+line_of text word is found =
+    let front = (bytes_eq-Decides (first_line text).front word).0 is in
+    cut_found LF text found ∙ ap (λ (t : List ℕ). t ++ LF ∷ (first_line text).rest) front
+
+-- the first line
+
+opening_by : (text rest : List ℕ) (begins is found : Bool) → bytes_eq (first_line text).front (codes "qpurecord 1") ≡ is → (first_line text).found ≡ found
+    → ◌≡◌ {A = Result (List ℕ) RecordFault}
+    (if begins then (if is then (if found then Ok (first_line text).rest else Err (fault.Line 1)) else Err fault.Version) else Err (fault.Line 1)) (Ok rest)
+    → text ≡ codes "qpurecord 1\n" ++ rest
+opening_by text rest true true true is found e =
+    let behind : (first_line text).rest ≡ rest = cc in
+    line_of text (codes "qpurecord 1") is found ∙ ap (λ (t : List ℕ). codes "qpurecord 1\n" ++ t) behind
+opening_by text rest true true false is found e = absurd (cc)
+opening_by text rest true false found is f e = absurd (cc)
+opening_by text rest false b found is f e = absurd (cc)
+
+opening_found : (text rest : List ℕ) → opening text ≡ Ok rest → text ≡ codes "qpurecord 1\n" ++ rest
+unfolding opening
+opening_found text rest e =
+    opening_by text rest (starts_with nat_eq (first_line text).front (codes "qpurecord ")) (bytes_eq (first_line text).front (codes "qpurecord 1")) (first_line text).found refl refl e
+
+-- the second line
+
+pub record IsSizeLine (text : List ℕ) (size : ℕ) (rest : List ℕ) : Type 0 where
+  pub written : text ≡ codes "job " ++ (decimal size ++ LF ∷ rest)
+  pub fits : size ≤ length rest
+
+fit_by : (size : ℕ) (behind : List ℕ) (sized : ℕ × List ℕ) (fits : Bool) → nat_le size (length behind) ≡ fits → ◌≡◌ {A = Option (ℕ × List ℕ)} (if fits then Some (size, behind) else None) (Some sized)
+    → (size ≡ sized.0) × (behind ≡ sized.1) × (size ≤ length behind)
+fit_by size behind sized true is e =
+    let pair : ◌≡◌ {A = ℕ × List ℕ} (size, behind) sized = cc in
+    (ap (λ (p : ℕ × List ℕ). p.0) pair, ap (λ (p : ℕ × List ℕ). p.1) pair, grind (arith, nat_tests))
+fit_by size behind sized false is e = absurd (cc)
+
+size_in : (text : List ℕ) (sized : ℕ × List ℕ) (told : Option ℕ) → length text < 2 ^ 64 → (first_line text).found ≡ true → starts_with nat_eq (first_line text).front (codes "job ") ≡ true
+    → number_of (length (first_line text).rest) (drop 4 (first_line text).front) ≡ told → option_and_then (λ size. that_fit size (first_line text).rest) told ≡ Some sized
+    → IsSizeLine text sized.0 sized.1
+size_in text sized None small found begins is e = absurd (cc)
+size_in text sized (Some size) small found begins is e =
+    let rest = (first_line text).rest in
+    let fit = fit_by size rest sized (nat_le size (length rest)) refl e in
+    let split = cut_found LF text found in
+    let long = ap (λ (t : List ℕ). length t) split in
+    let below : length rest < 2 ^ 64 = omega (arith, long, small, length-append (first_line text).front (LF ∷ rest)) in
+    let digits = number_found (length rest) (drop 4 (first_line text).front) size is fit.2 (omega (arith, below, fit.2)) in
+    let front : (first_line text).front ≡ codes "job " ++ drop 4 (first_line text).front = (starts_is Decides-eqb (first_line text).front (codes "job ") _ refl).0 begins in
+    let whole : text ≡ codes "job " ++ (decimal size ++ LF ∷ rest) = split ∙ ap (λ (t : List ℕ). t ++ LF ∷ rest) (front ∙ ap (λ (t : List ℕ). codes "job " ++ t) digits) in
+    let here : IsSizeLine text size rest = record { written = whole; fits = fit.2 } in
+    subst (λ (r : List ℕ). IsSizeLine text sized.0 r) fit.1 (subst (λ (n : ℕ). IsSizeLine text n rest) fit.0 here)
+
+size_by : (text : List ℕ) (sized : ℕ × List ℕ) (is : Bool) → length text < 2 ^ 64 → ((first_line text).found && starts_with nat_eq (first_line text).front (codes "job ")) ≡ is
+    → (if is then option_and_then (λ size. that_fit size (first_line text).rest) (number_of (length (first_line text).rest) (drop 4 (first_line text).front)) else None) ≡ Some sized
+    → IsSizeLine text sized.0 sized.1
+size_by text sized true small is e =
+    let parts = and_parts (first_line text).found (starts_with nat_eq (first_line text).front (codes "job ")) is in
+    size_in text sized (number_of (length (first_line text).rest) (drop 4 (first_line text).front)) small parts.0 parts.1 refl e
+size_by text sized false small is e = absurd (cc)
+
+size_found : (text : List ℕ) (sized : ℕ × List ℕ) → length text < 2 ^ 64 → size_line text ≡ Some sized → IsSizeLine text sized.0 sized.1
+unfolding size_line
+size_found text sized small e =
+    size_by text sized ((first_line text).found && starts_with nat_eq (first_line text).front (codes "job ")) small refl e
+
+line_given : {A : Type 0} (number : ℕ) (o : Option A) (a : A) → or_line number o ≡ Ok a → o ≡ Some a
+line_given number None a e = absurd (cc)
+line_given number (Some b) a e = cc
+
+-- the job
+
+pub record IsJobPart (size : ℕ) (text : List ℕ) (heading : Heading) : Type 0 where
+  pub written : text ≡ heading.job ++ (missing_line_end heading.job ++ heading.rest)
+  pub long : size ≡ length heading.job
+  pub line : heading.number ≡ line_behind heading.job + length (missing_line_end heading.job)
+
+begins_with : (text : List ℕ) → begins_lf text ≡ true → text ≡ LF ∷ drop 1 text
+begins_with [] e = absurd (cc)
+begins_with (byte ∷ text) e = ap (λ (b : ℕ). b ∷ text) (eqb-true byte LF e)
+
+job_by : (size : ℕ) (text job behind : List ℕ) (heading : Heading) (ends begins : Bool) → text ≡ job ++ behind → size ≡ length job → ends_line job ≡ ends → begins_lf behind ≡ begins
+    → ◌≡◌ {A = Result Heading RecordFault}
+    (if ends then Ok (record { job = job; rest = behind; number = line_behind job })
+    else if begins then Ok (record { job = job; rest = drop 1 behind; number = line_behind job + 1 })
+    else Err (fault.Line (line_behind job))) (Ok heading)
+    → IsJobPart size text heading
+job_by size text job behind heading true begins split long is b e =
+    let same : ◌≡◌ {A = Heading} (record { job = job; rest = behind; number = line_behind job }) heading = cc in
+    subst (IsJobPart size text) same (record { written = rw is split; long = long; line = rw is (omega arith) })
+job_by size text job behind heading false true split long is b e =
+    let same : ◌≡◌ {A = Heading} (record { job = job; rest = drop 1 behind; number = line_behind job + 1 }) heading = cc in
+    subst (IsJobPart size text) same
+    (record { written = rw is (split ∙ ap (λ (t : List ℕ). job ++ t) (begins_with behind b)); long = long; line = rw is refl })
+job_by size text job behind heading false false split long is b e = absurd (cc)
+
+job_found : (size : ℕ) (text : List ℕ) (heading : Heading) → size ≤ length text → job_part size text ≡ Ok heading → IsJobPart size text heading
+unfolding job_part
+job_found size text heading fits e =
+    job_by size text (take size text) (drop size text) heading (ends_line (take size text)) (begins_lf (drop size text)) (sym (take-append-drop size text))
+    (omega (arith, length-take size text, fits)) refl refl e
+
+-- the line `schedule`
+
+schedule_line_by : (number : ℕ) (text rest : List ℕ) (is : Bool) → ((first_line text).found && bytes_eq (first_line text).front (codes "schedule")) ≡ is
+    → ◌≡◌ {A = Result (List ℕ) RecordFault} (if is then Ok (first_line text).rest else Err (fault.Line number)) (Ok rest) → text ≡ codes "schedule\n" ++ rest
+schedule_line_by number text rest true is e =
+    let parts = and_parts (first_line text).found (bytes_eq (first_line text).front (codes "schedule")) is in
+    let behind : (first_line text).rest ≡ rest = cc in
+    line_of text (codes "schedule") parts.1 parts.0 ∙ ap (λ (t : List ℕ). codes "schedule\n" ++ t) behind
+schedule_line_by number text rest false is e = absurd (cc)
+
+schedule_line_found : (number : ℕ) (text rest : List ℕ) → schedule_line number text ≡ Ok rest → text ≡ codes "schedule\n" ++ rest
+unfolding schedule_line
+schedule_line_found number text rest e =
+    schedule_line_by number text rest ((first_line text).found && bytes_eq (first_line text).front (codes "schedule")) refl e
+
+-- all that stands before the items
+
+abbrev heading_text : List ℕ → List ℕ → List ℕ
+heading_text job rest =
+    codes "qpurecord 1\n" ++ (codes "job " ++ (decimal (length job) ++ LF ∷ (job ++ (missing_line_end job ++ (codes "schedule\n" ++ rest)))))
+
+pub record IsHeading (text : List ℕ) (heading : Heading) : Type 0 where
+  pub written : text ≡ heading_text heading.job heading.rest
+  pub line : heading.number ≡ line_of_items heading.job
+  pub fits : length heading.job < 2 ^ 64
+
+heading_join : (text opened : List ℕ) (size : ℕ) (sized : List ℕ) (part : Heading) (rest : List ℕ) → length text < 2 ^ 64 → text ≡ codes "qpurecord 1\n" ++ opened
+    → IsSizeLine opened size sized → IsJobPart size sized part → part.rest ≡ codes "schedule\n" ++ rest
+    → IsHeading text (record { job = part.job; rest = rest; number = part.number + 1 })
+heading_join text opened size sized part rest small first second third last = record {
+  written =
+      first ∙ ap (λ (t : List ℕ). codes "qpurecord 1\n" ++ t) (second.written ∙ rw (third.long, third.written, last) refl);
+  line = omega (arith, third.line);
+  fits =
+      let a = ap (λ (t : List ℕ). length t) first in
+      let b = ap (λ (t : List ℕ). length t) second.written in
+      let c = length-append (decimal size) (LF ∷ sized) in
+      let d = second.fits in
+      omega (arith, small, a, b, c, d, third.long);
+}
+
+heading_found : (text : List ℕ) (heading : Heading) → length text < 2 ^ 64 → heading_of text ≡ Ok heading → IsHeading text heading
+unfolding heading_of
+heading_found text heading small e =
+    let first = goes_on (opening text) with_job heading e in
+    let opened = opening_found text first.0 first.1 in
+    let below : length first.0 < 2 ^ 64 = omega (arith, small, ap (λ (t : List ℕ). length t) opened) in
+    let second = goes_on (or_line 2 (size_line first.0)) (λ (sized : ℕ × List ℕ). and_then (job_part sized.0 sized.1) with_schedule) heading first.2 in
+    let size = size_found first.0 second.0 below (line_given 2 (size_line first.0) second.0 second.1) in
+    let third = goes_on (job_part second.0.0 second.0.1) with_schedule heading second.2 in
+    let job = job_found second.0.0 second.0.1 third.0 size.fits third.1 in
+    let last = goes_on (schedule_line third.0.number third.0.rest) (λ (rest : List ℕ). Ok (record { job = third.0.job; rest = rest; number = third.0.number + 1 })) heading third.2 in
+    let line = schedule_line_found third.0.number third.0.rest last.0 last.1 in
+    let same : ◌≡◌ {A = Heading} (record { job = third.0.job; rest = last.0; number = third.0.number + 1 }) heading = cc in
+    subst (IsHeading text) same (heading_join text first.0 second.0.0 second.0.1 third.0 last.0 small opened size job line)
+
+-- the items
+
+pub record AreItems (number : ℕ) (runs : List Run) (text : List ℕ) (schedule : Schedule) : Type 0 where
+  pub items : List Run
+  pub ranges : AllByRecursion IsItem items
+  pub behind : List ℕ
+  pub written : text ≡ flat_map item_text items ++ (codes "endrecord" ++ behind)
+  pub followed : IsBehind behind schedule.rest
+  pub together : schedule.runs ≡ fold put runs items
+  pub line : schedule.rest_line ≡ number + length items + 1
+
+no_items : (number : ℕ) (runs : List Run) (text behind : List ℕ) (schedule : Schedule) (rest : List ℕ) → text ≡ codes "endrecord" ++ behind → IsBehind behind rest
+    → ended number runs rest ≡ Ok schedule → AreItems number runs text schedule
+no_items number runs text behind schedule rest written followed e =
+    let same : ◌≡◌ {A = Schedule} (record { runs = runs; rest = rest; rest_line = number + 1 }) schedule = cc in
+    subst (AreItems number runs text) same
+    (record { items = []; ranges = tt; behind = behind; written = written; followed = followed; together = refl; line = omega arith })
+
+one_more : (number : ℕ) (runs : List Run) (line text : List ℕ) (run : Run) (schedule : Schedule) → IsLineOfItem line run → AreItems (number + 1) (put runs run) text schedule
+    → AreItems number runs (line ++ LF ∷ text) schedule
+one_more number runs line text run schedule is more = record {
+  items = run ∷ more.items;
+  ranges = (is.item, more.ranges);
+  behind = more.behind;
+  written =
+      let joined : item_text run ++ (flat_map item_text more.items ++ (codes "endrecord" ++ more.behind)) ≡ (item_text run ++ flat_map item_text more.items) ++ (codes "endrecord" ++ more.behind) =
+      sym (append_assoc (item_text run) (flat_map item_text more.items) (codes "endrecord" ++ more.behind)) in
+      ap (λ (t : List ℕ). t ++ LF ∷ text) is.written ∙ sym (item_ends run.actor run.count text) ∙ ap (λ (t : List ℕ). item_text run ++ t) more.written ∙ joined;
+  followed = more.followed;
+  together = more.together;
+  line = omega (arith, more.line);
+}
+
+at_end : (number : ℕ) (runs : List Run) (line : List ℕ) (schedule : Schedule) (is : Bool) → is_end line ≡ is
+    → (if is then ended number runs [] else and_then (item_at number line) (open_item number)) ≡ Ok schedule → AreItems number runs (line ++ []) schedule
+at_end number runs line schedule true is e =
+    let word = (bytes_eq-Decides line (codes "endrecord")).0 is in
+    no_items number runs (line ++ []) [] schedule [] (ap (λ (t : List ℕ). t ++ []) word) nothing e
+at_end number runs line schedule false is e =
+    let turn = goes_on (item_at number line) (open_item number) schedule e in
+    let wrong : ◌≡◌ {A = Result Schedule RecordFault} (Err (fault.Line number)) (Ok schedule) = turn.2 in
+    absurd (cc)
+
+at_line : (number : ℕ) (runs : List Run) (line text : List ℕ) (schedule : Schedule) (is : Bool) → is_end line ≡ is
+    → (if is then ended number runs text else and_then (item_at number line) (λ run. schedule_of (number + 1) (put runs run) [] text)) ≡ Ok schedule
+    → ((run : Run) → schedule_of (number + 1) (put runs run) [] text ≡ Ok schedule → AreItems (number + 1) (put runs run) text schedule)
+    → AreItems number runs (line ++ LF ∷ text) schedule
+at_line number runs line text schedule true is e more =
+    let word = (bytes_eq-Decides line (codes "endrecord")).0 is in
+    no_items number runs (line ++ LF ∷ text) (LF ∷ text) schedule text (ap (λ (t : List ℕ). t ++ LF ∷ text) word) (line_end text) e
+at_line number runs line text schedule false is e more =
+    let turn = goes_on (item_at number line) (λ (run : Run). schedule_of (number + 1) (put runs run) [] text) schedule e in
+    one_more number runs line text turn.0 schedule (item_found number line turn.0 turn.1) (more turn.0 turn.2)
+
+at_byte : (number : ℕ) (runs : List Run) (line : List ℕ) (byte : ℕ) (text : List ℕ) (schedule : Schedule) (is : Bool) → is_lf byte ≡ is
+    → (if is then (if is_end line then ended number runs text else and_then (item_at number line) (λ run. schedule_of (number + 1) (put runs run) [] text))
+    else schedule_of number runs (line ++ byte ∷ []) text) ≡ Ok schedule
+    → ((run : Run) → schedule_of (number + 1) (put runs run) [] text ≡ Ok schedule → AreItems (number + 1) (put runs run) text schedule)
+    → (schedule_of number runs (line ++ byte ∷ []) text ≡ Ok schedule → AreItems number runs ((line ++ byte ∷ []) ++ text) schedule)
+    → AreItems number runs (line ++ byte ∷ text) schedule
+at_byte number runs line byte text schedule true is e more on =
+    rw (eqb-true byte LF is) (at_line number runs line text schedule (is_end line) refl e more)
+at_byte number runs line byte text schedule false is e more on =
+    subst (λ (t : List ℕ). AreItems number runs t schedule) (append_assoc line (byte ∷ []) text) (on e)
+
+items_found : (number : ℕ) (runs : List Run) (line text : List ℕ) (schedule : Schedule) → schedule_of number runs line text ≡ Ok schedule → AreItems number runs (line ++ text) schedule
+unfolding schedule_of
+items_found number runs line [] schedule e = at_end number runs line schedule (is_end line) refl e
+items_found number runs line (byte ∷ text) schedule e =
+    at_byte number runs line byte text schedule (is_lf byte) refl e (λ run f. items_found (number + 1) (put runs run) [] text schedule f)
+    (λ f. items_found number runs (line ++ byte ∷ []) text schedule f)
+
+-- the whole
+
+whole : (text : List ℕ) (heading : Heading) (schedule : Schedule) → IsHeading text heading → AreItems heading.number [] heading.rest schedule → IsRecord text (in_parts heading.job schedule)
+whole text heading schedule head are = record {
+  items = are.items;
+  ranges = are.ranges;
+  behind = are.behind;
+  written =
+      head.written ∙ ap (λ (t : List ℕ). heading_text heading.job t) are.written ∙ sym (front_grouped heading.job are.items are.behind);
+  followed = are.followed;
+  together = are.together;
+  line = omega (arith, are.line, head.line, feeds_front heading.job are.items head.fits are.ranges);
+}
+
+pub records_alone : ReadsRecordsAlone
+unfolding record_of
+records_alone text parts fits e =
+    let first = goes_on (heading_of text) after_heading parts e in
+    let head = heading_found text first.0 fits first.1 in
+    let second = goes_on (schedule_of first.0.number [] [] first.0.rest) (λ (schedule : Schedule). Ok (in_parts first.0.job schedule)) parts first.2 in
+    let are = items_found first.0.number [] [] first.0.rest second.0 second.1 in
+    let same : ◌≡◌ {A = Parts} (in_parts first.0.job second.0) parts = cc in
+    subst (IsRecord text) same (whole text first.0 second.0 head are)
