@@ -4,3 +4,4 @@ pub mod RecordAscii
 pub mod ReportAscii
 pub mod SpellLemmas
 pub mod ItemLemmas
+pub mod ReadableLaw

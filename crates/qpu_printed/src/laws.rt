@@ -2,6 +2,7 @@
 
 ghost use Rattle.qpu_printed.specs.Ascii.{AsciiHasNoneAbove, NoneAboveIsAscii, RecordsAreAscii, ReportsAreAscii};
 ghost use Rattle.qpu_printed.specs.Items.{MergedSpells, SchedulesHaveItems};
+ghost use Rattle.qpu_printed.specs.Readable.{PrintedRecordsAreRead};
 
 /// A law: a text of ASCII has no byte above the last of ASCII.
 pub fn ascii_has_none_above()
@@ -32,4 +33,10 @@ pub fn merged_schedules_spell()
 /// items of a record: of processors and units that there are, and of no more steps than an item has.
 pub fn schedules_have_items()
     ensures { SchedulesHaveItems }
+{}
+
+/// A law: the record of a job and a schedule that is permitted from a machine before any step is read
+/// back, whatever follows it.
+pub fn printed_records_are_read()
+    ensures { PrintedRecordsAreRead }
 {}
