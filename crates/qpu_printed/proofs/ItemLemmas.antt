@@ -120,15 +120,19 @@ record Fits (m : MachineState) (runs : List Run) : Type 0 where
   items : AllByRecursion IsItem runs
   first : FirstFits m runs
 
+-- a run of one step
+abbrev single : Actor → Run
+single actor = record { actor = actor; count = 1 }
+
 fresh : (m n : MachineState) (actor : Actor) (runs : List Run) → IsSoundMachine m → TakesOne m n actor → AllByRecursion IsItem runs
-    → Fits m ((let run : Run = record { actor = actor; count = 1 } in run) ∷ runs)
+    → Fits m (single actor ∷ runs)
 fresh m n actor runs sound takes items =
     let less = takes.less in
     record { items = ((takes.there, omega arith, omega arith), items); first = omega (arith, less) }
 
 fits_more : (m n : MachineState) (actor : Actor) (run : Run) (runs : List Run) (same : Bool) → IsSoundMachine m → TakesOne m n actor
     → is_same_actor actor run.actor ≡ same → Fits n (run ∷ runs)
-    → Fits m (if same then record run { count = run.count + 1 } ∷ runs else record { actor = actor; count = 1 } ∷ run ∷ runs)
+    → Fits m (if same then record run { count = run.count + 1 } ∷ runs else single actor ∷ run ∷ runs)
 fits_more m n actor run runs true sound takes is fits =
     let e = same_is actor run.actor is in
     let less : left_of n run.actor + 1 ≤ left_of m run.actor = subst (λ a. left_of n a + 1 ≤ left_of m a) e takes.less in

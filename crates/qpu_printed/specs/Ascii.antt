@@ -1,5 +1,5 @@
 -- Records and reports are ASCII. This project's own.
-use Rattle.std.specs.Prelude.{◌≡◌, ℕ, ◌<◌, nat_lt, Bool, List, All, position, None}
+use Rattle.std.specs.Prelude.{◌≡◌, ℕ, ◌<◌, nat_lt, Bool, List, ◌++◌, All, position, None}
 use Rattle.qpu_machine.specs.declared.actor.Actor.{Actor}
 use Rattle.qpu_machine.specs.Machine.{MachineState}
 use Rattle.qpu_record.specs.Record.{record_text}
@@ -28,3 +28,9 @@ RecordsAreAscii = (job : List ℕ) (s : List Actor) → HasAsciiAlone job → Ha
 -- a report's text is ASCII
 abbrev pub ReportsAreAscii : Type 0
 ReportsAreAscii = (m : MachineState) → HasAsciiAlone (report_text m)
+
+-- so what a run prints of a job has no byte that is none, where the job has none
+abbrev pub PrintedHasNoneAbove : Type 0
+PrintedHasNoneAbove =
+    (job : List ℕ) (s : List Actor) (m : MachineState) → position is_above job ≡ None
+    → position is_above (record_text job s ++ report_text m) ≡ None

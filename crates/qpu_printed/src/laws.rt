@@ -1,6 +1,6 @@
-//! Laws of the texts of records and reports.
+//! Laws of the texts of records and reports, and of what a record gives back.
 
-ghost use Rattle.qpu_printed.specs.Ascii.{AsciiHasNoneAbove, NoneAboveIsAscii, RecordsAreAscii, ReportsAreAscii};
+ghost use Rattle.qpu_printed.specs.Ascii.{AsciiHasNoneAbove, NoneAboveIsAscii, PrintedHasNoneAbove, RecordsAreAscii, ReportsAreAscii};
 ghost use Rattle.qpu_printed.specs.Items.{MergedSpells, SchedulesHaveItems};
 ghost use Rattle.qpu_printed.specs.Readable.{PrintedRecordsAreRead};
 
@@ -24,8 +24,13 @@ pub fn reports_are_ascii()
     ensures { ReportsAreAscii }
 {}
 
+/// A law: a record and a report behind it have no byte above the last of ASCII, where the job has none.
+pub fn printed_has_none_above()
+    ensures { PrintedHasNoneAbove }
+{}
+
 /// A law: a schedule with neighbouring steps of one actor put together spells the schedule.
-pub fn merged_schedules_spell()
+pub fn merged_spells()
     ensures { MergedSpells }
 {}
 

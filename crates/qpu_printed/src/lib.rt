@@ -6,6 +6,6 @@
 mod laws;
 
 pub use laws::{
-    ascii_has_none_above, merged_schedules_spell, none_above_is_ascii, printed_records_are_read, records_are_ascii,
-    reports_are_ascii, schedules_have_items,
+    ascii_has_none_above, merged_spells, none_above_is_ascii, printed_has_none_above,
+    printed_records_are_read, records_are_ascii, reports_are_ascii, schedules_have_items,
 };
