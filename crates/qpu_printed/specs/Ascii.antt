@@ -1,5 +1,6 @@
 -- Records and reports are ASCII. This project's own.
-use Rattle.std.specs.Prelude.{◌≡◌, ℕ, ◌<◌, nat_lt, Bool, List, ◌++◌, All, position, None}
+use Rattle.std.specs.Prelude.{◌≡◌, ℕ, ◌<◌, nat_lt, Bool, List, [], ◌∷◌, All, position, None}
+use Rattle.qpu_io.specs.Text.{in_turn}
 use Rattle.qpu_machine.specs.declared.actor.Actor.{Actor}
 use Rattle.qpu_machine.specs.Machine.{MachineState}
 use Rattle.qpu_record.specs.Record.{record_text}
@@ -33,4 +34,4 @@ ReportsAreAscii = (m : MachineState) → HasAsciiAlone (report_text m)
 abbrev pub PrintedHasNoneAbove : Type 0
 PrintedHasNoneAbove =
     (job : List ℕ) (s : List Actor) (m : MachineState) → position is_above job ≡ None
-    → position is_above (record_text job s ++ report_text m) ≡ None
+    → position is_above (in_turn (record_text job s ∷ report_text m ∷ [])) ≡ None
