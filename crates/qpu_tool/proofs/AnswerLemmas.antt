@@ -6,9 +6,8 @@ use Rattle.qpu_io.specs.Output.{Output, appended, Cut}
 use Rattle.qpu_io.proofs.Inputs.{whole_is, past_is}
 use Rattle.qpu_tool.specs.declared.status.Status.{Status}
 use Rattle.qpu_tool.specs.declared.status.Status.TheVariants.{Done, Usage, AsmRefused, JobRefused, HazardRefused, ReadFault, WriteFault, NoMemory, Stuck, RanOut, Faulted, RecordRefused, TooLong, NotAscii}
-use Rattle.qpu_tool.specs.declared.command.TheConstants.{MOST_INPUT}
 use Rattle.qpu_tool.specs.declared.words.Command.{Command}
-use Rattle.qpu_tool.specs.Commands.{IsCommand, IsNoCommand}
+use Rattle.qpu_tool.specs.Commands.{IsCommand, IsNoCommand, limit_of}
 use Rattle.qpu_tool.specs.Answer.{Answer, Gives}
 use Rattle.qpu_tool.specs.Answers.{AnswerTo, Due, wrong_words, broken, past, whole, Judged, answered, no_memory, Outcome, given, out_of_memory, Answered, IsOfText, IsQuiet, NothingLeft, AnswersTo}
 use Rattle.qpu_tool.proofs.CommandLemmas.{one_command}
@@ -16,7 +15,7 @@ use Rattle.qpu_tool.proofs.StatusLemmas.{text_status}
 
 -- the answer to a whole input is the call's
 pub judged : (words : List (List ℕ)) (old new : Input) (held held' : Output) (command : Command) (text : List ℕ) (status : Status)
-    → IsCommand words command → ReadsToEnd old new MOST_INPUT text → Judged command text held held' status → Outcome words old new held held' status
+    → IsCommand words command → ReadsToEnd old new (limit_of command) text → Judged command text held held' status → Outcome words old new held held' status
 judged words old new held held' command text status run read (answered answer due gives) = given answer (whole command text answer run read due) gives
 judged words old new held held' command text status run read (no_memory is same) =
     out_of_memory command run (record { bytes = text; at_most = read.at_most; taken = read.taken }) is same
@@ -56,9 +55,9 @@ sink_told words old new held held' status (out_of_memory command run read is sam
 -- why an answer is due, with its status
 pub data Cause (words : List (List ℕ)) (old new : Input) (answer : Answer) : Type 0 where
   by_words : answer.status ≡ Usage → IsNoCommand words → new ≡ old → Cause words old new answer
-  by_fault : (command : Command) → answer.status ≡ ReadFault → IsCommand words command → ReadBreaks old new MOST_INPUT → Cause words old new answer
-  by_length : (command : Command) → answer.status ≡ TooLong → IsCommand words command → ReadsPast old new MOST_INPUT → Cause words old new answer
-  by_text : (command : Command) (text : List ℕ) → IsCommand words command → ReadsToEnd old new MOST_INPUT text → AnswerTo command text answer → Cause words old new answer
+  by_fault : (command : Command) → answer.status ≡ ReadFault → IsCommand words command → ReadBreaks old new (limit_of command) → Cause words old new answer
+  by_length : (command : Command) → answer.status ≡ TooLong → IsCommand words command → ReadsPast old new (limit_of command) → Cause words old new answer
+  by_text : (command : Command) (text : List ℕ) → IsCommand words command → ReadsToEnd old new (limit_of command) text → AnswerTo command text answer → Cause words old new answer
 
 cause_of : (words : List (List ℕ)) (old new : Input) (answer : Answer) → Due words old new answer → Cause words old new answer
 cause_of words old new answer (wrong_words none same) = by_words refl none same
@@ -69,7 +68,7 @@ cause_of words old new answer (whole command text a run read due) = by_text comm
 -- what a call came to: a write fault, want of memory, or an answer with its cause
 pub data Came (words : List (List ℕ)) (old new : Input) (held held' : Output) (status : Status) : Type 0 where
   cut : (answer : Answer) → status ≡ WriteFault → Cause words old new answer → Cut held held' answer.text → Came words old new held held' status
-  wanting : (command : Command) → status ≡ NoMemory → IsCommand words command → ReadsPart old new MOST_INPUT → held' ≡ held → Came words old new held held' status
+  wanting : (command : Command) → status ≡ NoMemory → IsCommand words command → ReadsPart old new (limit_of command) → held' ≡ held → Came words old new held held' status
   gave_all : (answer : Answer) → status ≡ answer.status → Cause words old new answer → held' ≡ appended held answer.text → Came words old new held held' status
 
 pub came : (words : List (List ℕ)) (old new : Input) (held held' : Output) (status : Status)
@@ -170,18 +169,20 @@ memory_told words old new held held' status (wanting command is run read same) e
 memory_told words old new held held' status (gave_all answer is cause all) e = absurd (never_wanting words old new answer cause (sym is ∙ e))
 
 -- too long is told only where more was left than the limit
-too_long_by_cause : (words : List (List ℕ)) (old new : Input) (answer : Answer) (bytes : List ℕ) → Cause words old new answer → answer.status ≡ TooLong → old.left ≡ Some bytes
-    → MOST_INPUT < length bytes
-too_long_by_cause words old new answer bytes (by_words is none same) e left = absurd (let f : Usage ≡ TooLong = sym is ∙ e in cc)
-too_long_by_cause words old new answer bytes (by_fault command is run read) e left = absurd (let f : ReadFault ≡ TooLong = sym is ∙ e in cc)
-too_long_by_cause words old new answer bytes (by_length command is run read) e left = past_is old new MOST_INPUT _ left read
-too_long_by_cause words old new answer bytes (by_text command text run read due) e left = absurd (of_text command text answer TooLong due (sym e))
+too_long_by_cause : (words : List (List ℕ)) (old new : Input) (answer : Answer) (bytes : List ℕ) (command : Command) → Cause words old new answer → answer.status ≡ TooLong
+    → IsCommand words command → old.left ≡ Some bytes → limit_of command < length bytes
+too_long_by_cause words old new answer bytes command (by_words is none same) e run left = absurd (let f : Usage ≡ TooLong = sym is ∙ e in cc)
+too_long_by_cause words old new answer bytes command (by_fault other is also read) e run left = absurd (let f : ReadFault ≡ TooLong = sym is ∙ e in cc)
+too_long_by_cause words old new answer bytes command (by_length other is also read) e run left =
+    subst (λ (k : Command). limit_of k < length bytes) (one_command words other command also run) (past_is old new (limit_of other) _ left read)
+too_long_by_cause words old new answer bytes command (by_text other text also read due) e run left = absurd (of_text other text answer TooLong due (sym e))
 
-pub too_long_told : (words : List (List ℕ)) (old new : Input) (held held' : Output) (status : Status) (bytes : List ℕ)
-    → Came words old new held held' status → status ≡ TooLong → old.left ≡ Some bytes → MOST_INPUT < length bytes
-too_long_told words old new held held' status bytes (cut answer is cause part) e left = absurd (let f : WriteFault ≡ TooLong = sym is ∙ e in cc)
-too_long_told words old new held held' status bytes (wanting command is run read same) e left = absurd (let f : NoMemory ≡ TooLong = sym is ∙ e in cc)
-too_long_told words old new held held' status bytes (gave_all answer is cause all) e left = too_long_by_cause words old new answer bytes cause (sym is ∙ e) left
+pub too_long_told : (words : List (List ℕ)) (old new : Input) (held held' : Output) (status : Status) (bytes : List ℕ) (command : Command)
+    → Came words old new held held' status → status ≡ TooLong → IsCommand words command → old.left ≡ Some bytes → limit_of command < length bytes
+too_long_told words old new held held' status bytes command (cut answer is cause part) e run left = absurd (let f : WriteFault ≡ TooLong = sym is ∙ e in cc)
+too_long_told words old new held held' status bytes command (wanting other is also read same) e run left = absurd (let f : NoMemory ≡ TooLong = sym is ∙ e in cc)
+too_long_told words old new held held' status bytes command (gave_all answer is cause all) e run left =
+    too_long_by_cause words old new answer bytes command cause (sym is ∙ e) run left
 
 -- answers to a text
 
@@ -190,7 +191,7 @@ record FromText (words : List (List ℕ)) (old new : Input) (held held' : Output
   command : Command
   text : List ℕ
   is : IsCommand words command
-  read : ReadsToEnd old new MOST_INPUT text
+  read : ReadsToEnd old new (limit_of command) text
   given : Answered command text held held' status
 
 from_cause : (words : List (List ℕ)) (old new : Input) (held held' : Output) (status : Status) (answer : Answer) → Cause words old new answer
@@ -230,7 +231,7 @@ for_bytes words old new held held' status bytes c of left =
     record {
       command = f.command;
       is = f.is;
-      given = subst (λ (t : List ℕ). Answered f.command t held held' status) (whole_is old new MOST_INPUT _ _ left f.read) f.given;
+      given = subst (λ (t : List ℕ). Answered f.command t held held' status) (whole_is old new (limit_of f.command) _ _ left f.read) f.given;
     }
 
 -- the answer to what was left was given whole
@@ -248,10 +249,14 @@ due_by_cause : (words : List (List ℕ)) (old new : Input) (held held' : Output)
 due_by_cause words old new held held' status answer bytes command (by_words due none same) is all run left quiet = absurd (none command run)
 due_by_cause words old new held held' status answer bytes command (by_fault other due run' read) is all run left quiet = absurd (quiet read.faults)
 due_by_cause words old new held held' status answer bytes command (by_length other due run' read) is all run left quiet =
-    inr (inl (is ∙ due, past_is old new MOST_INPUT _ left read))
+    inr (inl (
+      is ∙ due,
+      subst (λ (k : Command). limit_of k < length bytes) (one_command words other command run' run)
+          (past_is old new (limit_of other) _ left read),
+    ))
 due_by_cause words old new held held' status answer bytes command (by_text other text run' read due) is all run left quiet =
     subst (λ (k : Command). AnswersTo k bytes held held' status) (one_command words other command run' run)
-    (subst (λ (t : List ℕ). AnswersTo other t held held' status) (whole_is old new MOST_INPUT _ _ left read)
+    (subst (λ (t : List ℕ). AnswersTo other t held held' status) (whole_is old new (limit_of other) _ _ left read)
     (inr (inr (read.at_most, record { answer = answer; due = due; status_is = is; printed = all }))))
 
 pub due_for : (words : List (List ℕ)) (old new : Input) (held held' : Output) (status : Status) (bytes : List ℕ) (command : Command)

@@ -2,7 +2,7 @@
 use Rattle.std.proofs.Common.{◌≡◌, ℕ, List, [], Option, Some, None, refl, ap, sym, ◌∙◌, get_or}
 use Rattle.std.specs.Prelude.{◌==◌, if◌then◌else◌}
 use Rattle.qpu_tool.specs.declared.words.Command.{Command}
-use Rattle.qpu_tool.specs.declared.words.Command.TheVariants.{Run, Assemble, Disassemble, Check}
+use Rattle.qpu_tool.specs.declared.words.Command.TheVariants.{Run, Assemble, Disassemble, Check, Replay}
 use Rattle.qpu_tool.specs.Commands.{words_of, IsCommand}
 
 -- the command with a second letter
@@ -12,6 +12,7 @@ with_letter letter =
     else if letter == 115 then Some Assemble
     else if letter == 105 then Some Disassemble
     else if letter == 104 then Some Check
+    else if letter == 101 then Some Replay
     else None
 
 named_by : List (List ℕ) → Option Command
@@ -23,6 +24,7 @@ is_named Run = refl
 is_named Assemble = refl
 is_named Disassemble = refl
 is_named Check = refl
+is_named Replay = refl
 
 same_some : (command other : Command) → ◌≡◌ {A = Option Command} (Some command) (Some other) → command ≡ other
 same_some command other e = cc

@@ -59,7 +59,7 @@ fails_is (fault.Twice line) due fails none = fails
 fails_is (fault.Processor line) due fails none = fails
 fails_is (fault.NoProgram line) due fails none = fails
 fails_is (fault.Place line) due fails none = fails
-fails_is (fault.NotBuilt line) due fails none = fails
+fails_is (fault.Asm told) due fails none = fails
 fails_is (fault.Check program check) due fails none = fails
 fails_is fault.Memory due fails none = absurd (none refl)
 

@@ -1,9 +1,12 @@
 pub mod CommandLemmas
 pub mod JudgeLemmas
 pub mod WordLemmas
+pub mod JobLemmas
 pub mod RunLemmas
 pub mod AsmLemmas
 pub mod DisLemmas
 pub mod CheckLemmas
+pub mod DifferLemmas
+pub mod RecordLemmas
 pub mod StatusLemmas
 pub mod AnswerLemmas

@@ -10,12 +10,14 @@ use Rattle.qpu_tool.specs.declared.status.Status.{Status}
 use Rattle.qpu_tool.specs.declared.status.Status.TheVariants.{Done, Usage, AsmRefused, JobRefused, HazardRefused, ReadFault, WriteFault, NoMemory, Stuck, RanOut, Faulted, RecordRefused, TooLong, NotAscii}
 use Rattle.qpu_tool.specs.declared.command.TheConstants.{MOST_INPUT}
 use Rattle.qpu_tool.specs.declared.words.Command.{Command}
-use Rattle.qpu_tool.specs.declared.words.Command.TheVariants.{Run, Assemble, Disassemble, Check}
+use Rattle.qpu_tool.specs.declared.words.Command.TheVariants.{Run, Assemble, Disassemble, Check, Replay}
 use Rattle.qpu_tool.specs.Refusals.{is_high}
 use Rattle.qpu_tool.specs.Answer.{Answer}
 use Rattle.qpu_tool.specs.RunAnswers.{IsOfRun, PrintsRun, IsAccepted, RunsIt}
-use Rattle.qpu_tool.specs.Answers.{AnswerBy, AnswerTo, high, low, Answered, IsOfText, RefusesText, RefusesJob, RefusesWords, PrintsWords, Assembles, PrintsLines, Disassembles, PrintsAccepted, Accepts, AnswersTo}
-use Rattle.qpu_tool.proofs.RunLemmas.{IsOfJob, job_status, job_refused_by, program_refused_by, ran_by, accepted_by}
+use Rattle.qpu_tool.specs.RecordAnswers.{PrintsReport}
+use Rattle.qpu_tool.specs.Answers.{AnswerBy, AnswerTo, high, low, Answered, IsOfText, RefusesText, RefusesJob, RefusesWords, RefusesRecord, PrintsWords, Assembles, PrintsLines, Disassembles, PrintsAccepted, Accepts, AnswersTo}
+use Rattle.qpu_tool.proofs.RunLemmas.{IsOfJob, job_status, run_job_refused, run_program_refused, run_program_told, ran_by, accepted_by}
+use Rattle.qpu_tool.proofs.RecordLemmas.{IsOfRecord, record_status, record_job_refused, record_program_refused, record_program_told, record_told, report_by}
 use Rattle.qpu_tool.proofs.AsmLemmas.{IsOfAsm, asm_status, told_by, words_by, assembled_by}
 use Rattle.qpu_tool.proofs.DisLemmas.{IsOfDis, dis_status, line_told_by, lines_by, disassembled_by}
 use Rattle.qpu_tool.proofs.CheckLemmas.{IsOfCheck, check_status, misspelled_by, hazard_by, accepted_told, accepts_by}
@@ -29,6 +31,7 @@ IsOfAscii HazardRefused = Unit {0}
 IsOfAscii Stuck = Unit {0}
 IsOfAscii RanOut = Unit {0}
 IsOfAscii Faulted = Unit {0}
+IsOfAscii RecordRefused = Unit {0}
 IsOfAscii _ = ⊥
 
 ascii_by_job : (status : Status) → IsOfJob status → IsOfAscii status
@@ -43,7 +46,7 @@ ascii_by_job NoMemory of = of
 ascii_by_job Stuck of = tt
 ascii_by_job RanOut of = tt
 ascii_by_job Faulted of = tt
-ascii_by_job RecordRefused of = of
+ascii_by_job RecordRefused of = tt
 ascii_by_job TooLong of = of
 ascii_by_job NotAscii of = of
 
@@ -59,7 +62,7 @@ ascii_by_asm NoMemory of = of
 ascii_by_asm Stuck of = tt
 ascii_by_asm RanOut of = tt
 ascii_by_asm Faulted of = tt
-ascii_by_asm RecordRefused of = of
+ascii_by_asm RecordRefused of = tt
 ascii_by_asm TooLong of = of
 ascii_by_asm NotAscii of = of
 
@@ -75,7 +78,7 @@ ascii_by_dis NoMemory of = of
 ascii_by_dis Stuck of = tt
 ascii_by_dis RanOut of = tt
 ascii_by_dis Faulted of = tt
-ascii_by_dis RecordRefused of = of
+ascii_by_dis RecordRefused of = tt
 ascii_by_dis TooLong of = of
 ascii_by_dis NotAscii of = of
 
@@ -91,9 +94,25 @@ ascii_by_check NoMemory of = of
 ascii_by_check Stuck of = tt
 ascii_by_check RanOut of = tt
 ascii_by_check Faulted of = tt
-ascii_by_check RecordRefused of = of
+ascii_by_check RecordRefused of = tt
 ascii_by_check TooLong of = of
 ascii_by_check NotAscii of = of
+
+ascii_by_record : (status : Status) → IsOfRecord status → IsOfAscii status
+ascii_by_record Done of = tt
+ascii_by_record Usage of = of
+ascii_by_record AsmRefused of = tt
+ascii_by_record JobRefused of = tt
+ascii_by_record HazardRefused of = tt
+ascii_by_record ReadFault of = of
+ascii_by_record WriteFault of = of
+ascii_by_record NoMemory of = of
+ascii_by_record Stuck of = tt
+ascii_by_record RanOut of = tt
+ascii_by_record Faulted of = tt
+ascii_by_record RecordRefused of = tt
+ascii_by_record TooLong of = of
+ascii_by_record NotAscii of = of
 
 text_by_ascii : (status : Status) → IsOfAscii status → IsOfText status
 text_by_ascii Done of = tt
@@ -107,7 +126,7 @@ text_by_ascii NoMemory of = of
 text_by_ascii Stuck of = tt
 text_by_ascii RanOut of = tt
 text_by_ascii Faulted of = tt
-text_by_ascii RecordRefused of = of
+text_by_ascii RecordRefused of = tt
 text_by_ascii TooLong of = of
 text_by_ascii NotAscii of = tt
 
@@ -123,7 +142,7 @@ text_by_run NoMemory of = of
 text_by_run Stuck of = tt
 text_by_run RanOut of = tt
 text_by_run Faulted of = tt
-text_by_run RecordRefused of = of
+text_by_run RecordRefused of = tt
 text_by_run TooLong of = of
 text_by_run NotAscii of = tt
 
@@ -132,6 +151,7 @@ ascii_status Run text answer by = ascii_by_job answer.status (job_status text an
 ascii_status Assemble text answer by = ascii_by_asm answer.status (asm_status text answer by)
 ascii_status Disassemble text answer by = ascii_by_dis answer.status (dis_status text answer by)
 ascii_status Check text answer by = ascii_by_check answer.status (check_status text answer by)
+ascii_status Replay text answer by = ascii_by_record answer.status (record_status text answer by)
 
 pub text_status : (command : Command) (text : List ℕ) (answer : Answer) → AnswerTo command text answer → IsOfText answer.status
 text_status command text answer (high at is) = tt
@@ -147,13 +167,14 @@ pub not_ascii_is : (command : Command) (text : List ℕ) (held held' : Output) (
     → IsSome (position is_high text)
 not_ascii_is command text held held' status a e = high_of command text a.answer a.due (sym e ∙ a.status_is)
 
--- a job is refused by a line or a program that isn't built
+-- a job is refused by a line
 
 job_refused_of : (command : Command) (text : List ℕ) (answer : Answer) → AnswerBy command text answer → JobRefused ≡ answer.status → RefusesJob command text
-job_refused_of Run text answer by e = job_refused_by text answer by e
+job_refused_of Run text answer by e = run_job_refused text answer by e
 job_refused_of Assemble text answer by e = subst IsOfAsm (sym e) (asm_status text answer by)
 job_refused_of Disassemble text answer by e = subst IsOfDis (sym e) (dis_status text answer by)
 job_refused_of Check text answer by e = subst IsOfCheck (sym e) (check_status text answer by)
+job_refused_of Replay text answer by e = record_job_refused text answer by e
 
 refused_of : (command : Command) (text : List ℕ) (answer : Answer) → AnswerTo command text answer → JobRefused ≡ answer.status → RefusesJob command text
 refused_of command text answer (high at is) e = absurd (let f : JobRefused ≡ NotAscii = e in cc)
@@ -167,10 +188,11 @@ job_refused_is command text held held' status a e = refused_of command text a.an
 
 words_refused_of : (command : Command) (text : List ℕ) (answer : Answer) (held held' : Output) → position is_high text ≡ None → AnswerBy command text answer
     → HazardRefused ≡ answer.status → held' ≡ appended held answer.text → RefusesWords command text held held'
-words_refused_of Run text answer held held' ascii by e all = program_refused_by text answer by e
+words_refused_of Run text answer held held' ascii by e all = run_program_refused text answer by e
 words_refused_of Assemble text answer held held' ascii by e all = subst IsOfAsm (sym e) (asm_status text answer by)
 words_refused_of Disassemble text answer held held' ascii by e all = subst IsOfDis (sym e) (dis_status text answer by)
 words_refused_of Check text answer held held' ascii by e all = hazard_by text answer held held' ascii by e all
+words_refused_of Replay text answer held held' ascii by e all = record_program_refused text answer by e
 
 hazard_of : (command : Command) (text : List ℕ) (answer : Answer) (held held' : Output) → AnswerTo command text answer
     → HazardRefused ≡ answer.status → held' ≡ appended held answer.text → RefusesWords command text held held'
@@ -212,10 +234,11 @@ runs_accepted text held held' status short is (inr (inr all)) =
 
 told_of : (command : Command) (text : List ℕ) (answer : Answer) (held held' : Output) → position is_high text ≡ None → AnswerBy command text answer
     → AsmRefused ≡ answer.status → held' ≡ appended held answer.text → RefusesText command text held held'
-told_of Run text answer held held' ascii by e all = subst IsOfJob (sym e) (job_status text answer by)
+told_of Run text answer held held' ascii by e all = run_program_told text answer held held' by e all
 told_of Assemble text answer held held' ascii by e all = told_by text answer held held' ascii by e all
 told_of Disassemble text answer held held' ascii by e all = line_told_by text answer held held' ascii by e all
 told_of Check text answer held held' ascii by e all = misspelled_by text answer held held' ascii by e all
+told_of Replay text answer held held' ascii by e all = record_program_told text answer held held' by e all
 
 text_refused_of : (command : Command) (text : List ℕ) (answer : Answer) (held held' : Output) → AnswerTo command text answer
     → AsmRefused ≡ answer.status → held' ≡ appended held answer.text → RefusesText command text held held'
@@ -294,3 +317,32 @@ checks_it text codes held held' status short ascii due inside clean (inl want) =
 checks_it text codes held held' status short ascii due inside clean (inr (inl long)) = absurd (omega (arith, short, long.1))
 checks_it text codes held held' status short ascii due inside clean (inr (inr all)) =
     checked_it text codes all.1.answer held held' status ascii due inside clean all.1.due all.1.status_is all.1.printed
+
+-- a record is refused
+
+record_refused_of : (command : Command) (text : List ℕ) (answer : Answer) (held held' : Output) → AnswerBy command text answer
+    → RecordRefused ≡ answer.status → held' ≡ appended held answer.text → RefusesRecord command text held held'
+record_refused_of Run text answer held held' by e all = subst IsOfJob (sym e) (job_status text answer by)
+record_refused_of Assemble text answer held held' by e all = subst IsOfAsm (sym e) (asm_status text answer by)
+record_refused_of Disassemble text answer held held' by e all = subst IsOfDis (sym e) (dis_status text answer by)
+record_refused_of Check text answer held held' by e all = subst IsOfCheck (sym e) (check_status text answer by)
+record_refused_of Replay text answer held held' by e all = record_told text answer held held' by e all
+
+record_of_text : (command : Command) (text : List ℕ) (answer : Answer) (held held' : Output) → AnswerTo command text answer
+    → RecordRefused ≡ answer.status → held' ≡ appended held answer.text → RefusesRecord command text held held'
+record_of_text command text answer held held' (high at is) e all = absurd (let f : RecordRefused ≡ NotAscii = e in cc)
+record_of_text command text answer held held' (low a ascii by) e all = record_refused_of command text answer held held' by e all
+
+pub record_refused_is : (command : Command) (text : List ℕ) (held held' : Output) (status : Status) → Answered command text held held' status
+    → status ≡ RecordRefused → RefusesRecord command text held held'
+record_refused_is command text held held' status a e = record_of_text command text a.answer held held' a.due (sym e ∙ a.status_is) a.printed
+
+-- a report was printed
+
+report_of : (text : List ℕ) (answer : Answer) (held held' : Output) (status : Status) → AnswerTo Replay text answer → status ≡ answer.status
+    → held' ≡ appended held answer.text → IsOfRun status → PrintsReport text held held' status
+report_of text answer held held' status (high at is) e all of = absurd (subst IsOfRun e of)
+report_of text answer held held' status (low a ascii by) e all of = report_by text answer held held' status by e all of
+
+pub report_is : (text : List ℕ) (held held' : Output) (status : Status) → Answered Replay text held held' status → IsOfRun status → PrintsReport text held held' status
+report_is text held held' status a of = report_of text a.answer held held' status a.due a.status_is a.printed of

@@ -14,14 +14,15 @@ use Rattle.qpu_hazard.specs.Refusal.{NoneRefusable}
 use Rattle.qpu_hazard.specs.Faults.{IsCheckFault}
 use Rattle.qpu_tool.specs.declared.status.Status.{Status}
 use Rattle.qpu_tool.specs.declared.status.Status.TheVariants.{Done, Usage, AsmRefused, JobRefused, HazardRefused, ReadFault, WriteFault, NoMemory, Stuck, RanOut, Faulted, RecordRefused, TooLong, NotAscii}
-use Rattle.qpu_tool.specs.declared.command.TheConstants.{MOST_INPUT}
 use Rattle.qpu_tool.specs.declared.words.Command.{Command}
-use Rattle.qpu_tool.specs.declared.words.Command.TheVariants.{Run, Assemble, Disassemble, Check}
-use Rattle.qpu_tool.specs.Commands.{IsCommand, IsNoCommand}
-use Rattle.qpu_tool.specs.Refusals.{is_high, program_line}
+use Rattle.qpu_tool.specs.declared.words.Command.TheVariants.{Run, Assemble, Disassemble, Check, Replay}
+use Rattle.qpu_tool.specs.Commands.{IsCommand, IsNoCommand, limit_of}
+use Rattle.qpu_tool.specs.Refusals.{is_high, asm_line, program_line}
 use Rattle.qpu_tool.specs.Answer.{Answer, usage, read_fault, too_long, not_ascii, Gives}
-use Rattle.qpu_tool.specs.RunAnswers.{RunAnswer, IsRefusedJob, IsRefusedProgram}
-use Rattle.qpu_tool.specs.TextAnswers.{AsmAnswer, DisAnswer, CheckAnswer, asm_line, words_text, accepted_line}
+use Rattle.qpu_tool.specs.RunAnswers.{RunAnswer, IsRefusedJob, IsRefusedProgram, TellsProgram}
+use Rattle.qpu_tool.specs.TextAnswers.{AsmAnswer, DisAnswer, CheckAnswer, words_text, accepted_line}
+use Rattle.qpu_record.specs.Reading.{Parts, record_of}
+use Rattle.qpu_tool.specs.RecordAnswers.{RecordAnswer, TellsRecord}
 
 -- the answer of a command to a text of ASCII
 abbrev pub AnswerBy : Command → List ℕ → Answer → Type 0
@@ -29,6 +30,7 @@ AnswerBy Run text answer = RunAnswer text answer
 AnswerBy Assemble text answer = AsmAnswer text answer
 AnswerBy Disassemble text answer = DisAnswer text answer
 AnswerBy Check text answer = CheckAnswer text answer
+AnswerBy Replay text answer = RecordAnswer text answer
 
 -- the answer of a command to a whole input: a byte that is no ASCII is told before all else
 pub data AnswerTo (command : Command) (text : List ℕ) : Answer → Type 0 where
@@ -48,7 +50,7 @@ IsOfText NoMemory = ⊥
 IsOfText Stuck = Unit {0}
 IsOfText RanOut = Unit {0}
 IsOfText Faulted = Unit {0}
-IsOfText RecordRefused = ⊥
+IsOfText RecordRefused = Unit {0}
 IsOfText TooLong = ⊥
 IsOfText NotAscii = Unit {0}
 
@@ -57,11 +59,11 @@ pub data Due (words : List (List ℕ)) (old new : Input) : Answer → Type 0 whe
   -- the words are no command, and nothing is read
   wrong_words : IsNoCommand words → new ≡ old → Due words old new usage
   -- reading failed
-  broken : (command : Command) → IsCommand words command → ReadBreaks old new MOST_INPUT → Due words old new read_fault
+  broken : (command : Command) → IsCommand words command → ReadBreaks old new (limit_of command) → Due words old new read_fault
   -- too much was read
-  past : (command : Command) → IsCommand words command → ReadsPast old new MOST_INPUT → Due words old new too_long
+  past : (command : Command) → IsCommand words command → ReadsPast old new (limit_of command) → Due words old new too_long
   -- all was read: the answer is that to this text
-  whole : (command : Command) (text : List ℕ) (answer : Answer) → IsCommand words command → ReadsToEnd old new MOST_INPUT text → AnswerTo command text answer
+  whole : (command : Command) (text : List ℕ) (answer : Answer) → IsCommand words command → ReadsToEnd old new (limit_of command) text → AnswerTo command text answer
       → Due words old new answer
 
 -- what the call for a whole input comes to: its answer was given, or memory was wanting and nothing
@@ -74,7 +76,7 @@ pub data Judged (command : Command) (text : List ℕ) (old new : Output) (status
 -- written
 pub data Outcome (words : List (List ℕ)) (old new : Input) (held held' : Output) (status : Status) : Type 0 where
   given : (answer : Answer) → Due words old new answer → Gives answer held held' status → Outcome words old new held held' status
-  out_of_memory : (command : Command) → IsCommand words command → ReadsPart old new MOST_INPUT → status ≡ NoMemory → held' ≡ held
+  out_of_memory : (command : Command) → IsCommand words command → ReadsPart old new (limit_of command) → status ≡ NoMemory → held' ≡ held
       → Outcome words old new held held' status
 
 -- an answer to a text was given whole
@@ -100,10 +102,11 @@ pub record TellsLine (text : List ℕ) (old new : Output) : Type 0 where
 
 -- why a command refused a text, and what it printed
 abbrev pub RefusesText : Command → List ℕ → Output → Output → Type 0
-RefusesText Run text old new = ⊥
+RefusesText Run text old new = TellsProgram text old new
 RefusesText Assemble text old new = TellsFault text old new
 RefusesText Disassemble text old new = TellsLine text old new
 RefusesText Check text old new = TellsFault text old new
+RefusesText Replay text old new = (parts : Parts) × (record_of text ≡ Ok parts) × TellsProgram parts.job old new
 
 -- why a command refused the job of a text
 abbrev pub RefusesJob : Command → List ℕ → Type 0
@@ -111,6 +114,7 @@ RefusesJob Run text = IsRefusedJob text
 RefusesJob Assemble text = ⊥
 RefusesJob Disassemble text = ⊥
 RefusesJob Check text = ⊥
+RefusesJob Replay text = (parts : Parts) × (record_of text ≡ Ok parts) × IsRefusedJob parts.job
 
 -- the words of assembly text are refused by the checker: the least of them that is outside the profile,
 -- or the first hazard; and its line was printed
@@ -129,6 +133,15 @@ RefusesWords Run text old new = IsRefusedProgram text
 RefusesWords Assemble text old new = ⊥
 RefusesWords Disassemble text old new = ⊥
 RefusesWords Check text old new = TellsHazard text old new
+RefusesWords Replay text old new = (parts : Parts) × (record_of text ≡ Ok parts) × IsRefusedProgram parts.job
+
+-- why a command refused the record of a text, and what it printed
+abbrev pub RefusesRecord : Command → List ℕ → Output → Output → Type 0
+RefusesRecord Replay text old new = TellsRecord text old new
+RefusesRecord Run text old new = ⊥
+RefusesRecord Assemble text old new = ⊥
+RefusesRecord Disassemble text old new = ⊥
+RefusesRecord Check text old new = ⊥
 
 -- the words of assembly text were printed
 pub record PrintsWords (text : List ℕ) (old new : Output) : Type 0 where
@@ -178,5 +191,5 @@ NothingLeft input = IfSome input.left (λ rest. rest ≡ [])
 abbrev pub AnswersTo : Command → List ℕ → Output → Output → Status → Type 0
 AnswersTo command text old new status =
     (status ≡ NoMemory)
-    ⊎ (((status ≡ TooLong) × (MOST_INPUT < length text))
-    ⊎ ((length text ≤ MOST_INPUT) × Answered command text old new status))
+    ⊎ (((status ≡ TooLong) × (limit_of command < length text))
+    ⊎ ((length text ≤ limit_of command) × Answered command text old new status))

@@ -5,4 +5,6 @@ pub mod Refusals
 pub mod Answer
 pub mod RunAnswers
 pub mod TextAnswers
+pub mod RecordAnswers
+pub mod Holding
 pub mod Answers

@@ -3,11 +3,18 @@ use Rattle.std.specs.Prelude.{ℕ, Bool, List, [], ◌∷◌, codes, decimal, na
 use Rattle.qpu_io.specs.Text.{joined}
 use Rattle.qpu_word.specs.declared.fault.WordFault.{WordFault}
 use Rattle.qpu_word.specs.declared.fault.WordFault.TheVariants as word
+use Rattle.qpu_token.specs.declared.fault.AsmKind.{AsmKind}
+use Rattle.qpu_token.specs.declared.fault.AsmKind.TheVariants as kind
+use Rattle.qpu_token.specs.declared.fault.AsmFault.{AsmFault}
 use Rattle.qpu_hazard.specs.declared.checked.CheckFault.{CheckFault}
 use Rattle.qpu_hazard.specs.declared.checked.CheckFault.TheVariants as check
 use Rattle.qpu_job.specs.declared.fault.JobFault.{JobFault}
 use Rattle.qpu_job.specs.declared.fault.JobFault.TheVariants as fault
 use Rattle.qpu_job.specs.Plan.{Plan}
+use Rattle.qpu_record.specs.declared.fault.RecordFault.{RecordFault}
+use Rattle.qpu_record.specs.declared.fault.RecordFault.TheVariants as record_fault
+use Rattle.qpu_replay.specs.declared.fault.ReplayFault.{ReplayFault}
+use Rattle.qpu_replay.specs.declared.fault.ReplayFault.TheVariants as replay_fault
 use Rattle.qpu_tool.specs.declared.status.Status.{Status}
 use Rattle.qpu_tool.specs.declared.status.Status.TheVariants as status
 use Rattle.qpu_tool.specs.declared.ascii.TheConstants.{LAST_ASCII}
@@ -19,6 +26,35 @@ is_high byte = nat_lt LAST_ASCII byte
 -- the line that tells the first byte that is none, counted from 0
 abbrev pub not_ascii_line : ℕ → List ℕ
 not_ascii_line at = joined (codes "not ascii at " ∷ decimal at ∷ codes "\n" ∷ [])
+
+-- assembly text
+
+-- the name of a kind of fault; want of memory has none
+abbrev pub asm_kind_name : AsmKind → List ℕ
+asm_kind_name kind.BadByte = codes "BadByte"
+asm_kind_name kind.NumberTooLarge = codes "NumberTooLarge"
+asm_kind_name kind.UnknownName = codes "UnknownName"
+asm_kind_name kind.Twice = codes "Twice"
+asm_kind_name kind.TooDeep = codes "TooDeep"
+asm_kind_name kind.TooLong = codes "TooLong"
+asm_kind_name kind.DivideByZero = codes "DivideByZero"
+asm_kind_name kind.Shape = codes "Shape"
+asm_kind_name kind.UnknownOp = codes "UnknownOp"
+asm_kind_name kind.Operands = codes "Operands"
+asm_kind_name kind.TwoImmediates = codes "TwoImmediates"
+asm_kind_name kind.TwoReads = codes "TwoReads"
+asm_kind_name kind.Label = codes "Label"
+asm_kind_name kind.Range = codes "Range"
+asm_kind_name kind.Memory = []
+
+-- the line that refuses a text: the fault's kind, line and column
+abbrev pub asm_line : AsmFault → List ℕ
+asm_line fault =
+    joined
+    (codes "refused asm " ∷ asm_kind_name fault.kind ∷ codes " at line " ∷ decimal fault.line ∷ codes " column "
+    ∷ decimal fault.column ∷ codes "\n" ∷ [])
+
+-- jobs
 
 -- the line of a job's refusal, with its kind and the job's line
 abbrev pub job_line : List ℕ → ℕ → List ℕ
@@ -75,12 +111,32 @@ fault_line names (fault.Twice line) = job_line (codes "Twice") line
 fault_line names (fault.Processor line) = job_line (codes "Processor") line
 fault_line names (fault.NoProgram line) = job_line (codes "NoProgram") line
 fault_line names (fault.Place line) = job_line (codes "Place") line
-fault_line names (fault.NotBuilt line) = job_line (codes "NotBuilt") line
+fault_line names (fault.Asm told) = asm_line told
 fault_line names (fault.Check program refused) = check_line (name_at names program) refused
 fault_line names fault.Memory = []
 
 -- the status of a job's fault
 abbrev pub fault_status : JobFault → Status
+fault_status (fault.Asm told) = status.AsmRefused
 fault_status (fault.Check program refused) = status.HazardRefused
 fault_status fault.Memory = status.NoMemory
 fault_status _ = status.JobRefused
+
+-- records
+
+-- the line of a record's fault; want of memory has none
+abbrev pub record_line : RecordFault → List ℕ
+record_line record_fault.Version = codes "refused record version\n"
+record_line (record_fault.Line line) = joined (codes "refused record line " ∷ decimal line ∷ codes "\n" ∷ [])
+record_line (record_fault.Number line) = joined (codes "refused record number at line " ∷ decimal line ∷ codes "\n" ∷ [])
+record_line record_fault.Memory = []
+
+-- the line of a schedule that isn't a complete permitted one
+abbrev pub replay_line : ReplayFault → List ℕ
+replay_line (replay_fault.NotEnabled item step) =
+    joined (codes "refused record item " ∷ decimal item ∷ codes " step " ∷ decimal step ∷ codes "\n" ∷ [])
+replay_line replay_fault.NotFinished = codes "refused record not finished\n"
+
+-- the line of a report that isn't the machine's
+abbrev pub report_line : ℕ → List ℕ
+report_line line = joined (codes "refused record report at line " ∷ decimal line ∷ codes "\n" ∷ [])

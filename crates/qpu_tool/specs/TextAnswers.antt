@@ -1,7 +1,6 @@
 -- The answers to assembly text, and to words. This project's own.
 use Rattle.std.specs.Prelude.{◌≡◌, ◌≢◌, ℕ, ◌/◌, ◌%◌, ◌^◌, List, [], ◌∷◌, length, codes, decimal, flat_map, Ok, Err}
 use Rattle.qpu_io.specs.Text.{joined, hex8}
-use Rattle.qpu_token.specs.declared.fault.AsmKind.{AsmKind}
 use Rattle.qpu_token.specs.declared.fault.AsmKind.TheVariants as kind
 use Rattle.qpu_token.specs.declared.fault.AsmFault.{AsmFault}
 use Rattle.qpu_asm.specs.Assembly.{IsAssembly}
@@ -13,33 +12,8 @@ use Rattle.qpu_hazard.specs.declared.checked.CheckFault.TheVariants as check
 use Rattle.qpu_hazard.specs.Refusal.{NoneRefusable}
 use Rattle.qpu_hazard.specs.Faults.{IsCheckFault}
 use Rattle.qpu_tool.specs.declared.status.Status.TheVariants as status
-use Rattle.qpu_tool.specs.Refusals.{program_line}
+use Rattle.qpu_tool.specs.Refusals.{asm_line, program_line}
 use Rattle.qpu_tool.specs.Answer.{Answer}
-
--- the name of a kind of fault; want of memory has none
-abbrev pub asm_kind_name : AsmKind → List ℕ
-asm_kind_name kind.BadByte = codes "BadByte"
-asm_kind_name kind.NumberTooLarge = codes "NumberTooLarge"
-asm_kind_name kind.UnknownName = codes "UnknownName"
-asm_kind_name kind.Twice = codes "Twice"
-asm_kind_name kind.TooDeep = codes "TooDeep"
-asm_kind_name kind.TooLong = codes "TooLong"
-asm_kind_name kind.DivideByZero = codes "DivideByZero"
-asm_kind_name kind.Shape = codes "Shape"
-asm_kind_name kind.UnknownOp = codes "UnknownOp"
-asm_kind_name kind.Operands = codes "Operands"
-asm_kind_name kind.TwoImmediates = codes "TwoImmediates"
-asm_kind_name kind.TwoReads = codes "TwoReads"
-asm_kind_name kind.Label = codes "Label"
-asm_kind_name kind.Range = codes "Range"
-asm_kind_name kind.Memory = []
-
--- the line that refuses a text: the fault's kind, line and column
-abbrev pub asm_line : AsmFault → List ℕ
-asm_line fault =
-    joined
-    (codes "refused asm " ∷ asm_kind_name fault.kind ∷ codes " at line " ∷ decimal fault.line ∷ codes " column "
-    ∷ decimal fault.column ∷ codes "\n" ∷ [])
 
 -- the line of a word: sixteen digits
 abbrev pub word_line : ℕ → List ℕ

@@ -5,13 +5,14 @@ ghost use Rattle.qpu_asm.specs.Assembly.{IsAssembly};
 ghost use Rattle.qpu_asm.specs.HexLines.{hex_words};
 ghost use Rattle.qpu_flow.specs.Code.{AllInProfile};
 ghost use Rattle.qpu_hazard.specs.Refusal.{NoneRefusable};
+ghost use Rattle.qpu_tool.specs.RecordAnswers.{PrintsReport};
 ghost use Rattle.qpu_tool.specs.declared.words.Command.{Command};
-ghost use Rattle.qpu_tool.specs.declared.words.Command.TheVariants.{Run, Assemble, Disassemble, Check};
-ghost use Rattle.qpu_tool.specs.Commands.{IsCommand, IsNoCommand};
+ghost use Rattle.qpu_tool.specs.declared.words.Command.TheVariants.{Run, Assemble, Disassemble, Check, Replay};
+ghost use Rattle.qpu_tool.specs.Commands.{IsCommand, IsNoCommand, limit_of};
 ghost use Rattle.qpu_tool.specs.Refusals.{is_high};
 ghost use Rattle.qpu_tool.specs.Answer.{Gives, usage, read_fault, too_long};
 ghost use Rattle.qpu_tool.specs.RunAnswers.{IsOfRun, PrintsRun, IsAccepted, RunsIt};
-ghost use Rattle.qpu_tool.specs.Answers.{IsOfText, IsQuiet, NothingLeft, Answered, AnswersTo, RefusesText, RefusesJob, RefusesWords, PrintsWords, Assembles, PrintsLines, Disassembles, PrintsAccepted, Accepts, Outcome};
+ghost use Rattle.qpu_tool.specs.Answers.{IsOfText, IsQuiet, NothingLeft, Answered, AnswersTo, RefusesText, RefusesJob, RefusesWords, RefusesRecord, PrintsWords, Assembles, PrintsLines, Disassembles, PrintsAccepted, Accepts, Outcome};
 
 use crate::judging::judge;
 use crate::status::Status;
@@ -19,8 +20,11 @@ use crate::words::command_of;
 use qpu_io::{ReadAllError, Sink, Source, read_all, write_all_of};
 use std::alloc::Global;
 
-/// Bytes of the longest input.
+/// Bytes of the longest input, of every command but `replay`.
 pub const MOST_INPUT: u64 = 8_388_608;
+
+/// Bytes of the longest input of `replay`.
+pub const MOST_RECORD: u64 = 268_435_456;
 
 /// Says that the words are no command.
 fn say_usage<K: Sink>(sink: &mut K) -> Status
@@ -63,7 +67,7 @@ fn carried_out<S: Source, K: Sink>(
 {
     match command_of(words) {
         None => say_usage(sink),
-        Some(command) => match read_all(alloc, source, MOST_INPUT) {
+        Some(command) => match read_all(alloc, source, command.limit()) {
             Ok(text) => judge(alloc, command, &text, sink),
             Err(ReadAllError::Source) => say_read_fault(sink),
             Err(ReadAllError::TooLong) => say_too_long(sink),
@@ -72,14 +76,14 @@ fn carried_out<S: Source, K: Sink>(
     }
 }
 
-/// Carries out a command that waits for nobody, on an input of at most 8,388,608 bytes. `run -w 0`
-/// reads a whole job, runs it in the serial order until nothing can move, and writes its record and
-/// its report. `asm` reads a whole assembly text, and writes a line for each of its words: `0x` and
+/// Carries out a command that waits for nobody, on an input of at most 8,388,608 bytes, of `replay`
+/// 268,435,456. `run -w 0` reads a whole job, runs it in the serial order until nothing can move, and
+/// writes its record and its report. `replay` reads a record, with its report behind it or without, runs
+/// its job in exactly the order of its schedule, and writes the report. `asm` reads a whole assembly text, and writes a line for each of its words: `0x` and
 /// sixteen lower-case hexadecimal digits. `dis` reads such lines, and writes the canonical line of each
 /// word, or `.word` and its number where the word isn't canonical. `check` assembles a text, and writes
 /// how many words it has where no path of them breaks a hazard rule. Where the input is refused, the
-/// one line of the refusal that is due is written. The answer is any status but RecordRefused; after the first write no
-/// memory is taken.
+/// one line of the refusal that is due is written. After the first write no memory is taken.
 pub fn plain<S: Source, K: Sink>(
     alloc: Global,
     words: &[String],
@@ -103,7 +107,8 @@ pub fn plain<S: Source, K: Sink>(
     ensures no_memory { result ≡ Status.NoMemory → K.shown sink.new ≡ K.shown sink.old }
 
     // Each answer to the bytes has its cause, and where no fault is counted one of them comes.
-    ensures too_long { (bytes : List ℕ) → (S.shown source.old).left ≡ Some bytes → result ≡ Status.TooLong → MOST_INPUT < length bytes }
+    ensures too_long { (bytes : List ℕ) (command : Command) → IsCommand (map string_bytes words.now) command → (S.shown source.old).left ≡ Some bytes
+        → result ≡ Status.TooLong → limit_of command < length bytes }
     ensures not_ascii { (bytes : List ℕ) → (S.shown source.old).left ≡ Some bytes → result ≡ Status.NotAscii → IsSome (position is_high bytes) }
     ensures answered { (bytes : List ℕ) (command : Command) → IsCommand (map string_bytes words.now) command → (S.shown source.old).left ≡ Some bytes
         → IsOfText result → Answered command bytes (K.shown sink.old) (K.shown sink.new) result }
@@ -119,12 +124,19 @@ pub fn plain<S: Source, K: Sink>(
     ensures asm_refused { (bytes : List ℕ) (command : Command) → IsCommand (map string_bytes words.now) command → (S.shown source.old).left ≡ Some bytes
         → result ≡ Status.AsmRefused → RefusesText command bytes (K.shown sink.old) (K.shown sink.new) }
 
+    ensures record_refused { (bytes : List ℕ) (command : Command) → IsCommand (map string_bytes words.now) command → (S.shown source.old).left ≡ Some bytes
+        → result ≡ Status.RecordRefused → RefusesRecord command bytes (K.shown sink.old) (K.shown sink.new) }
+
     // Runs: each status of them has its cause, and an accepted job is run.
     ensures ran { (bytes : List ℕ) → IsCommand (map string_bytes words.now) Run → (S.shown source.old).left ≡ Some bytes
         → IsOfRun result → PrintsRun bytes (K.shown sink.old) (K.shown sink.new) result }
     ensures accepted { (bytes : List ℕ) → IsCommand (map string_bytes words.now) Run → (S.shown source.old).left ≡ Some bytes → length bytes ≤ MOST_INPUT → IsAccepted bytes
         → IsQuiet (S.shown source.old).faults (S.shown source.new).faults → IsQuiet (K.shown sink.old).faults (K.shown sink.new).faults
         → RunsIt bytes (K.shown sink.old) (K.shown sink.new) result }
+
+    // Replays: the report is that of the machine after exactly the steps of the record.
+    ensures replayed { (bytes : List ℕ) → IsCommand (map string_bytes words.now) Replay → (S.shown source.old).left ≡ Some bytes
+        → IsOfRun result → PrintsReport bytes (K.shown sink.old) (K.shown sink.new) result }
 
     // Assembly text: the words that are due are printed.
     ensures assembled { (bytes : List ℕ) → IsCommand (map string_bytes words.now) Assemble → (S.shown source.old).left ≡ Some bytes

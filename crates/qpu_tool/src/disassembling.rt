@@ -7,7 +7,7 @@ ghost use Rattle.qpu_tool.specs.TextAnswers.{lines_answer};
 ghost use Rattle.qpu_tool.specs.Answer.{Gives};
 ghost use Rattle.qpu_tool.specs.Answers.{Judged};
 
-use crate::assembling::{is_want, say_asm_fault};
+use crate::misspelling::{is_want, say_asm_fault};
 use crate::status::Status;
 use qpu_asm::words_of;
 use qpu_dis::disassemble;

@@ -7,6 +7,7 @@ ghost use Rattle.qpu_tool.specs.Answer.{Gives, not_ascii};
 ghost use Rattle.qpu_tool.specs.TextAnswers.{check_refusal};
 ghost use Rattle.qpu_tool.specs.RunAnswers.{refusal};
 
+use crate::misspelling::put_asm_line;
 use crate::status::Status;
 use qpu_hazard::CheckFault;
 use qpu_io::{Piece, Sink, SinkFailed, put_all};
@@ -166,7 +167,7 @@ fn put_fault_line<K: Sink>(
         JobFault::Processor(line) => put_job_line(b"Processor", line, sink),
         JobFault::NoProgram(line) => put_job_line(b"NoProgram", line, sink),
         JobFault::Place(line) => put_job_line(b"Place", line, sink),
-        JobFault::NotBuilt(line) => put_job_line(b"NotBuilt", line, sink),
+        JobFault::Asm(told) => put_asm_line(told, sink),
         JobFault::Check { program, fault } => {
             put_refused_line(b" in ", name_of(programs, program), fault, sink)
         }
@@ -179,6 +180,7 @@ fn fault_status(fault: JobFault) -> Status
     ensures { result ≡ fault_status fault }
 {
     match fault {
+        JobFault::Asm(_) => Status::AsmRefused,
         JobFault::Check { .. } => Status::HazardRefused,
         JobFault::Memory => Status::NoMemory,
         _ => Status::JobRefused,

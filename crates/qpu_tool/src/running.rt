@@ -26,7 +26,7 @@ use qpu_report::write_report;
 use std::alloc::Global;
 
 /// The status of a run with an ending.
-fn status_for(ending: Ending) -> Status
+pub(crate) fn status_for(ending: Ending) -> Status
     ensures { result ≡ status_for ending }
 {
     match ending {
@@ -103,7 +103,7 @@ fn run_job<K: Sink>(alloc: Global, text: &str, job: &Job, sink: &mut K) -> Statu
 }
 
 /// Whether a fault is want of memory.
-fn is_want(fault: &JobFault) -> bool
+pub(crate) fn is_want(fault: &JobFault) -> bool
     ensures yes { IsTrue result → fault.now ≡ JobFault.Memory }
     ensures no { IsFalse result → fault.now ≢ JobFault.Memory }
 {

@@ -1,6 +1,8 @@
 //! The commands and their words.
-ghost use Rattle.std.specs.Prelude.{◌≡◌, ◌↔◌, IsTrue, IfSome, IfNone, [], ◌∷◌, map, string_bytes};
-ghost use Rattle.qpu_tool.specs.Commands.{IsRun, IsCommand, IsNoCommand};
+ghost use Rattle.std.specs.Prelude.{◌≡◌, ◌≤◌, ◌↔◌, IsTrue, IfSome, IfNone, [], ◌∷◌, map, string_bytes};
+ghost use Rattle.qpu_tool.specs.Commands.{IsRun, IsCommand, IsNoCommand, limit_of};
+
+use crate::command::{MOST_INPUT, MOST_RECORD};
 
 /// A command that waits for nobody (this project's own).
 #[derive(Clone, Copy, Debug, PartialEq, Eq)]
@@ -13,6 +15,21 @@ pub enum Command {
     Disassemble,
     /// `check`: judges assembly text.
     Check,
+    /// `replay`: runs a record again.
+    Replay,
+}
+
+impl Command {
+    /// Bytes of the longest input.
+    pub(crate) fn limit(self) -> u64
+        ensures is { result ≡ limit_of self }
+        ensures most { result ≤ MOST_RECORD }
+    {
+        match self {
+            Command::Replay => MOST_RECORD,
+            _ => MOST_INPUT,
+        }
+    }
 }
 
 /// Whether a word of the command line is this text.
@@ -64,6 +81,9 @@ pub(crate) fn command_of(words: &[String]) -> Option<Command>
     }
     if is_alone(words, "check") {
         return Some(Command::Check);
+    }
+    if is_alone(words, "replay") {
+        return Some(Command::Replay);
     }
     None
 }

@@ -1,9 +1,9 @@
 -- Each clause follows of the outcome.
 use Rattle.std.proofs.Common.{subst, sym}
-use Rattle.qpu_tool.specs.declared.words.Command.TheVariants.{Run, Assemble, Disassemble, Check}
+use Rattle.qpu_tool.specs.declared.words.Command.TheVariants.{Run, Assemble, Disassemble, Check, Replay}
 use Rattle.qpu_tool.specs.Answers.{IsOfText}
 use Rattle.qpu_tool.proofs.AnswerLemmas.{came, usage_told, no_command, sink_told, source_told, write_fault_told, read_fault_told, nothing_left, memory_told, too_long_told, for_bytes, answered_told, due_for}
-use Rattle.qpu_tool.proofs.StatusLemmas.{not_ascii_is, job_refused_is, hazard_refused_is, run_is, runs_accepted, text_refused_is, words_are, assembles_it, lines_are, disassembles_it, accepted_are, checks_it, text_by_run}
+use Rattle.qpu_tool.proofs.StatusLemmas.{not_ascii_is, job_refused_is, hazard_refused_is, run_is, runs_accepted, text_refused_is, words_are, assembles_it, lines_are, disassembles_it, accepted_are, checks_it, record_refused_is, report_is, text_by_run}
 use Rattle.qpu_tool.proofs.command.plain.Goals as goal
 
 pub returns : goal.returns
@@ -20,7 +20,7 @@ returns g c =
       read_fault = read_fault_told _ _ _ _ _ _ k;
       nothing_left = nothing_left _ _ _ _ _ _ k;
       no_memory = memory_told _ _ _ _ _ _ k;
-      too_long = λ bytes left is. too_long_told _ _ _ _ _ _ bytes k is left;
+      too_long = λ bytes command words left is. too_long_told _ _ _ _ _ _ bytes command k is words left;
       not_ascii = λ bytes left is.
           let f = for_bytes _ _ _ _ _ _ bytes k (subst IsOfText (sym is) tt) left in not_ascii_is f.command bytes _ _ _ f.given is;
       answered = λ bytes command words left of. answered_told _ _ _ _ _ _ bytes command k of words left;
@@ -29,6 +29,9 @@ returns g c =
           job_refused_is command bytes _ _ _ (answered_told _ _ _ _ _ _ bytes command k (subst IsOfText (sym is) tt) words left) is;
       hazard_refused = λ bytes command words left is.
           hazard_refused_is command bytes _ _ _ (answered_told _ _ _ _ _ _ bytes command k (subst IsOfText (sym is) tt) words left) is;
+      record_refused = λ bytes command words left is.
+          record_refused_is command bytes _ _ _ (answered_told _ _ _ _ _ _ bytes command k (subst IsOfText (sym is) tt) words left) is;
+      replayed = λ bytes words left of. report_is bytes _ _ _ (answered_told _ _ _ _ _ _ bytes Replay k (text_by_run _ of) words left) of;
       ran = λ bytes words left of. run_is bytes _ _ _ (answered_told _ _ _ _ _ _ bytes Run k (text_by_run _ of) words left) of;
       accepted = λ bytes words left short is quiet_in quiet_out.
           runs_accepted bytes _ _ _ short is (due_for _ _ _ _ _ _ bytes Run k words left quiet_in quiet_out);

@@ -12,3 +12,6 @@ returns-in-Disassemble g c = rw c.in-Disassemble.is c.disassemble_text.ensures
 
 pub returns-in-Check : goal.returns-in-Check
 returns-in-Check g c = rw c.in-Check.is c.check_text.ensures
+
+pub returns-in-Replay : goal.returns-in-Replay
+returns-in-Replay g c = rw c.in-Replay.is c.replay_text.ensures

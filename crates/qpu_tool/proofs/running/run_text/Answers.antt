@@ -1,7 +1,7 @@
 -- A text that is no job is refused.
 use Rattle.std.proofs.Common.{[]}
 use Rattle.qpu_job.specs.Reading.{job_of}
-use Rattle.qpu_tool.specs.RunAnswers.{no_job, refusal}
+use Rattle.qpu_tool.specs.RunAnswers.{refused, no_job, refusal}
 use Rattle.qpu_tool.specs.Answers.{answered, low}
 use Rattle.qpu_tool.proofs.JudgeLemmas.{fails_is}
 use Rattle.qpu_tool.proofs.running.run_text.Goals as goal
@@ -11,5 +11,6 @@ returns-else-is_want g c =
     let none = c.is_want.ensures.no c.if-is_want.false in
     answered (refusal [] c.in-Err.fault)
     (low (refusal [] c.in-Err.fault) c.requires.ascii
-    (no_job c.in-Err.fault (fails_is c.in-Err.fault (job_of c.args.text.now) c.in-Err.ensures.answer none) c.in-Err.ensures.kinds none))
+    (refused (refusal [] c.in-Err.fault)
+    (no_job c.in-Err.fault (fails_is c.in-Err.fault (job_of c.args.text.now) c.in-Err.ensures.answer none) c.in-Err.ensures.kinds none)))
     c.say_fault.ensures
