@@ -8,5 +8,6 @@ pub mod DisLemmas
 pub mod CheckLemmas
 pub mod DifferLemmas
 pub mod RecordLemmas
+pub mod PrintedLemmas
 pub mod StatusLemmas
 pub mod AnswerLemmas

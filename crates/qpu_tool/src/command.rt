@@ -1,17 +1,21 @@
 //! The commands that wait for nobody, from the words and the bytes to the answer.
-ghost use Rattle.std.specs.Prelude.{◌≡◌, ◌<◌, ◌≤◌, ◌⊎◌, ℕ, List, Some, map, length, position, IsSome, None, Ok, string_bytes};
+ghost use Rattle.std.specs.Prelude.{◌≡◌, ◌<◌, ◌≤◌, ◌⊎◌, ◌++◌, ℕ, List, [], Some, map, length, position, IsSome, None, Ok, string_bytes};
 ghost use Rattle.qpu_io.specs.Faults.{Rose};
 ghost use Rattle.qpu_asm.specs.Assembly.{IsAssembly};
 ghost use Rattle.qpu_asm.specs.HexLines.{hex_words};
 ghost use Rattle.qpu_flow.specs.Code.{AllInProfile};
 ghost use Rattle.qpu_hazard.specs.Refusal.{NoneRefusable};
-ghost use Rattle.qpu_tool.specs.RecordAnswers.{PrintsReport};
+ghost use Rattle.qpu_machine.specs.declared.actor.Actor.{Actor};
+ghost use Rattle.qpu_machine.specs.Machine.{MachineState};
+ghost use Rattle.qpu_record.specs.Record.{record_text};
+ghost use Rattle.qpu_report.specs.Report.{report_text};
+ghost use Rattle.qpu_tool.specs.RecordAnswers.{PrintsReport, PrintsReportOf};
 ghost use Rattle.qpu_tool.specs.declared.words.Command.{Command};
 ghost use Rattle.qpu_tool.specs.declared.words.Command.TheVariants.{Run, Assemble, Disassemble, Check, Replay};
 ghost use Rattle.qpu_tool.specs.Commands.{IsCommand, IsNoCommand, limit_of};
 ghost use Rattle.qpu_tool.specs.Refusals.{is_high};
 ghost use Rattle.qpu_tool.specs.Answer.{Gives, usage, read_fault, too_long};
-ghost use Rattle.qpu_tool.specs.RunAnswers.{IsOfRun, PrintsRun, IsAccepted, RunsIt};
+ghost use Rattle.qpu_tool.specs.RunAnswers.{IsOfRun, PrintsRun, IsAccepted, RunsIt, CanRun};
 ghost use Rattle.qpu_tool.specs.Answers.{IsOfText, IsQuiet, NothingLeft, Answered, AnswersTo, RefusesText, RefusesJob, RefusesWords, RefusesRecord, PrintsWords, Assembles, PrintsLines, Disassembles, PrintsAccepted, Accepts, Outcome};
 
 use crate::judging::judge;
@@ -134,9 +138,15 @@ pub fn plain<S: Source, K: Sink>(
         → IsQuiet (S.shown source.old).faults (S.shown source.new).faults → IsQuiet (K.shown sink.old).faults (K.shown sink.new).faults
         → RunsIt bytes (K.shown sink.old) (K.shown sink.new) result }
 
-    // Replays: the report is that of the machine after exactly the steps of the record.
+    // Replays: the report is that of the machine after exactly the steps of the record; and what a run
+    // prints, with its report or without, is replayed to the same report and status.
     ensures replayed { (bytes : List ℕ) → IsCommand (map string_bytes words.now) Replay → (S.shown source.old).left ≡ Some bytes
         → IsOfRun result → PrintsReport bytes (K.shown sink.old) (K.shown sink.new) result }
+    ensures replays { (job rest : List ℕ) (s : List Actor) (m : MachineState) → IsCommand (map string_bytes words.now) Replay
+        → (S.shown source.old).left ≡ Some (record_text job s ++ rest) → length (record_text job s ++ rest) ≤ MOST_RECORD
+        → CanRun job s m → (rest ≡ []) ⊎ (rest ≡ report_text m)
+        → IsQuiet (S.shown source.old).faults (S.shown source.new).faults → IsQuiet (K.shown sink.old).faults (K.shown sink.new).faults
+        → PrintsReportOf m (K.shown sink.old) (K.shown sink.new) result }
 
     // Assembly text: the words that are due are printed.
     ensures assembled { (bytes : List ℕ) → IsCommand (map string_bytes words.now) Assemble → (S.shown source.old).left ≡ Some bytes

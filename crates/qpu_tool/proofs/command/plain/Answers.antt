@@ -4,6 +4,7 @@ use Rattle.qpu_tool.specs.declared.words.Command.TheVariants.{Run, Assemble, Dis
 use Rattle.qpu_tool.specs.Answers.{IsOfText}
 use Rattle.qpu_tool.proofs.AnswerLemmas.{came, usage_told, no_command, sink_told, source_told, write_fault_told, read_fault_told, nothing_left, memory_told, too_long_told, for_bytes, answered_told, due_for}
 use Rattle.qpu_tool.proofs.StatusLemmas.{not_ascii_is, job_refused_is, hazard_refused_is, run_is, runs_accepted, text_refused_is, words_are, assembles_it, lines_are, disassembles_it, accepted_are, checks_it, record_refused_is, report_is, text_by_run}
+use Rattle.qpu_tool.proofs.PrintedLemmas.{replays_it}
 use Rattle.qpu_tool.proofs.command.plain.Goals as goal
 
 pub returns : goal.returns
@@ -32,6 +33,8 @@ returns g c =
       record_refused = λ bytes command words left is.
           record_refused_is command bytes _ _ _ (answered_told _ _ _ _ _ _ bytes command k (subst IsOfText (sym is) tt) words left) is;
       replayed = λ bytes words left of. report_is bytes _ _ _ (answered_told _ _ _ _ _ _ bytes Replay k (text_by_run _ of) words left) of;
+      replays = λ job rest s m words left short can follows quiet_in quiet_out.
+          replays_it job rest s m _ _ _ short can follows (due_for _ _ _ _ _ _ _ Replay k words left quiet_in quiet_out);
       ran = λ bytes words left of. run_is bytes _ _ _ (answered_told _ _ _ _ _ _ bytes Run k (text_by_run _ of) words left) of;
       accepted = λ bytes words left short is quiet_in quiet_out.
           runs_accepted bytes _ _ _ short is (due_for _ _ _ _ _ _ bytes Run k words left quiet_in quiet_out);
