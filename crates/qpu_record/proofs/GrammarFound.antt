@@ -168,6 +168,13 @@ heading_join text opened size sized part rest small first second third last = re
       omega (arith, small, a, b, c, d, third.long);
 }
 
+heading_same : (text opened : List ℕ) (size : ℕ) (sized : List ℕ) (part heading : Heading) (rest : List ℕ) → length text < 2 ^ 64 → text ≡ codes "qpurecord 1\n" ++ opened
+    → IsSizeLine opened size sized → IsJobPart size sized part → part.rest ≡ codes "schedule\n" ++ rest
+    → ◌≡◌ {A = Result Heading RecordFault} (Ok (record { job = part.job; rest = rest; number = part.number + 1 })) (Ok heading) → IsHeading text heading
+heading_same text opened size sized part heading rest small first second third last e =
+    let same : ◌≡◌ {A = Heading} (record { job = part.job; rest = rest; number = part.number + 1 }) heading = cc in
+    subst (IsHeading text) same (heading_join text opened size sized part rest small first second third last)
+
 heading_found : (text : List ℕ) (heading : Heading) → length text < 2 ^ 64 → heading_of text ≡ Ok heading → IsHeading text heading
 unfolding heading_of
 heading_found text heading small e =
@@ -180,8 +187,7 @@ heading_found text heading small e =
     let job = job_found second.0.0 second.0.1 third.0 size.fits third.1 in
     let last = goes_on (schedule_line third.0.number third.0.rest) (λ (rest : List ℕ). Ok (record { job = third.0.job; rest = rest; number = third.0.number + 1 })) heading third.2 in
     let line = schedule_line_found third.0.number third.0.rest last.0 last.1 in
-    let same : ◌≡◌ {A = Heading} (record { job = third.0.job; rest = last.0; number = third.0.number + 1 }) heading = cc in
-    subst (IsHeading text) same (heading_join text first.0 second.0.0 second.0.1 third.0 last.0 small opened size job line)
+    heading_same text first.0 second.0.0 second.0.1 third.0 heading last.0 small opened size job line last.2
 
 -- the items
 
