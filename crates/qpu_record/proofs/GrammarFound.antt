@@ -14,8 +14,7 @@ use Rattle.qpu_record.specs.Lines.{LF, first_line, is_lf}
 use Rattle.qpu_record.specs.Numbers.{number_of}
 use Rattle.qpu_record.specs.Items.{item_at}
 use Rattle.qpu_record.specs.Heading.{Heading, and_then, or_line, that_fit, line_behind, begins_lf, opening, size_line, job_part, schedule_line, with_schedule, with_job, heading_of}
-use Rattle.qpu_record.specs.Reading.{Schedule, Parts, is_end, ended, open_item, schedule_of, after_heading, record_of}
-use Rattle.qpu_record.specs.Reading.{with_job as in_parts}
+use Rattle.qpu_record.specs.Reading.{Schedule, Parts, parts_with, is_end, ended, open_item, schedule_of, after_heading, record_of}
 use Rattle.qpu_record.specs.Grammar.{IsItem, put, IsBehind, nothing, line_end, IsRecord, ReadsRecordsAlone}
 use Rattle.qpu_record.proofs.GrammarLemmas.{item_ends}
 use Rattle.qpu_record.proofs.GrammarOnly.{front_grouped, feeds_front, line_of_items}
@@ -263,7 +262,7 @@ items_found number runs line (byte ∷ text) schedule e =
 
 -- the whole
 
-whole : (text : List ℕ) (heading : Heading) (schedule : Schedule) → IsHeading text heading → AreItems heading.number [] heading.rest schedule → IsRecord text (in_parts heading.job schedule)
+whole : (text : List ℕ) (heading : Heading) (schedule : Schedule) → IsHeading text heading → AreItems heading.number [] heading.rest schedule → IsRecord text (parts_with heading.job schedule)
 whole text heading schedule head are = record {
   items = are.items;
   ranges = are.ranges;
@@ -280,7 +279,7 @@ unfolding record_of
 records_alone text parts fits e =
     let first = goes_on (heading_of text) after_heading parts e in
     let head = heading_found text first.0 fits first.1 in
-    let second = goes_on (schedule_of first.0.number [] [] first.0.rest) (λ (schedule : Schedule). Ok (in_parts first.0.job schedule)) parts first.2 in
+    let second = goes_on (schedule_of first.0.number [] [] first.0.rest) (λ (schedule : Schedule). Ok (parts_with first.0.job schedule)) parts first.2 in
     let are = items_found first.0.number [] [] first.0.rest second.0 second.1 in
-    let same : ◌≡◌ {A = Parts} (in_parts first.0.job second.0) parts = cc in
+    let same : ◌≡◌ {A = Parts} (parts_with first.0.job second.0) parts = cc in
     subst (IsRecord text) same (whole text first.0 second.0 head are)
