@@ -1,5 +1,5 @@
 -- The law.
-use Rattle.std.proofs.Common.{◌≡◌, ℕ, List, [], ◌<◌, ◌≤◌, ◌^◌, length, Result, Ok}
+use Rattle.std.proofs.Common.{◌≡◌, ℕ, List, [], ◌<◌, ◌≤◌, ◌^◌, length, Result, Ok, subst}
 use Rattle.std.specs.Prelude.{All}
 use Rattle.qpu_token.specs.declared.fault.AsmFault.{AsmFault}
 use Rattle.qpu_token.specs.declared.token.Token.{Token}
@@ -28,3 +28,10 @@ come_back words few low =
 pub alone : (words : List ℕ) (answer : Result (List ℕ) AsmFault) → length words ≤ MOST_WORDS → All (λ w. w < 2 ^ 64) words
     → IsAssembly (disassembly words) answer → answer ≡ Ok words
 alone words answer few low is = one_assembly (disassembly words) answer (Ok words) is (come_back words few low)
+
+oks : (a b : List ℕ) → ◌≡◌ {A = Result (List ℕ) AsmFault} (Ok a) (Ok b) → a ≡ b
+oks a b e = cc
+
+-- so a text has the words of one program alone
+pub same_words : (a b : List ℕ) → length a ≤ MOST_WORDS → length b ≤ MOST_WORDS → All (λ w. w < 2 ^ 64) a → All (λ w. w < 2 ^ 64) b → disassembly a ≡ disassembly b → a ≡ b
+same_words a b few_a few_b low_a low_b same = oks a b (alone b (Ok a) few_b low_b (subst (λ text. IsAssembly text (Ok a)) same (come_back a few_a low_a)))

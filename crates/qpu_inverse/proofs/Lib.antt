@@ -12,4 +12,6 @@ pub mod Heading
 pub mod Runs
 pub mod Placing
 pub mod Words
+pub mod Bytes
+pub mod BackLemmas
 pub mod Law

@@ -4,6 +4,7 @@ use Rattle.std.specs.Prelude.{◌&&◌, nat_le, not, is_some}
 use Rattle.std.proofs.lemmas.Bool.Decides.{nat_tests}
 use Rattle.std.proofs.lemmas.Option.{slice_get_past}
 use Rattle.qpu_token.specs.declared.token.Token.{Token}
+use Rattle.qpu_expr.specs.declared.limits.TheConstants.{MOST_WORDS}
 use Rattle.qpu_expr.specs.LineTokens.{LineTokens}
 use Rattle.qpu_expr.specs.StageParts.{Stage}
 use Rattle.qpu_expr.specs.Operands.{is_name, is_dot, nothing_read, instruction as worked_out}
@@ -38,7 +39,7 @@ use Rattle.qpu_inverse.proofs.Heading.{name_in, word_heads, no_label}
 abbrev pub stage : List (List Token) → ℕ → ℕ → Stage
 stage lines tokens k = record { lines = lines; labels = []; sets = []; macros = []; reached = k; tokens = tokens; words = k }
 
--- no limit is passed
+-- no limit is passed: 65,536 lines, 4,096 words, and 1,048,576 tokens
 short_enough : (ls : List (List Token)) (n k : ℕ) (line : LineTokens) → k < 4096 → length line.tokens ≤ 1048576 - n → too_long (stage ls n k) line true ≡ None
 unfolding too_long
 short_enough ls n k line few small =
@@ -161,7 +162,7 @@ ran_on text w words ls out r is p = record {
   left = p.left ∙ ap (λ z. Ok (record { lines = z; labels = [] })) (append_assoc ls (out ∷ []) p.outs);
 }
 
-tokens_short : (text : List ℕ) (w : ℕ) (line : LineTokens) → IsLineOf text (line_written w) line → length line.tokens ≤ 64
+tokens_short : (text : List ℕ) (w : ℕ) (line : LineTokens) → IsLineOf text (line_written w) line → length line.tokens ≤ 128
 tokens_short text w line is =
     let same = spells_length text (line_written w) line.tokens is.spells in
     let short = line_short w in
@@ -172,14 +173,14 @@ unfolding line_written
 spelled_by text w line is = is.spells
 
 lines_ran : (text : List ℕ) (run : List LineTokens → Stage → Outcome) (words : List ℕ) (lines : List LineTokens) (ls : List (List Token)) (n k : ℕ)
-    → AreLines text words lines → k + length words ≤ 4096 → n ≤ 64 * k → Ran text words ls (lines_run text run false 0 lines (stage ls n k))
+    → AreLines text words lines → k + length words ≤ MOST_WORDS → n ≤ 128 * k → Ran text words ls (lines_run text run false 0 lines (stage ls n k))
 lines_ran text run [] [] ls n k are few small =
     record { outs = []; are = tt; left = ap (λ z. Ok (record { lines = z; labels = [] })) (sym (append-nil ls)) }
 lines_ran text run [] (line ∷ lines) ls n k are few small = absurd are
 lines_ran text run (w ∷ words) [] ls n k are few small = absurd are
 lines_ran text run (w ∷ words) (line ∷ lines) ls n k are few small =
     let one : IsLineOf text (line_written w) line = are.0 in
-    let size : length line.tokens ≤ 64 = tokens_short text w line one in
+    let size : length line.tokens ≤ 128 = tokens_short text w line one in
     let long : too_long (stage ls n k) line true ≡ None = short_enough ls n k line (omega arith) (omega arith) in
     let p = step_by text run w (canonical_instruction w) line lines ls n k refl (spelled_by text w line one) long in
     let out : IsOut text w (p.out ++ line.end ∷ []) = record { tokens = p.out; end = line.end; same = refl; spells = p.spells } in
@@ -205,7 +206,7 @@ pub record TextLeft (text : List ℕ) (words : List ℕ) (tokens : List Token) :
   pub are : AreOuts text words outs
   pub left : expansion text tokens ≡ Ok (record { lines = outs; labels = [] })
 
-pub text_left : (text : List ℕ) (words : List ℕ) (tokens : List Token) → length words ≤ 4096 → Spells text (lines_written words) tokens → TextLeft text words tokens
+pub text_left : (text : List ℕ) (words : List ℕ) (tokens : List Token) → length words ≤ MOST_WORDS → Spells text (lines_written words) tokens → TextLeft text words tokens
 unfolding expansion
 text_left text words tokens few h =
     let p = lines_ran text (run_within text 15) words (lines_of text tokens) [] 0 0 (text_lines text words tokens (lines_used words) h) (omega arith) (omega arith) in

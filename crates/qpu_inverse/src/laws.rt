@@ -12,3 +12,9 @@ pub fn words_come_back()
     ensures come_back { (words : List ℕ) → length words ≤ MOST_WORDS → All (λ w. w < 2 ^ 64) words → IsAssembly (disassembly words) (Ok words) }
     ensures alone { (words : List ℕ) (answer : Result (List ℕ) AsmFaultOf) → length words ≤ MOST_WORDS → All (λ w. w < 2 ^ 64) words → IsAssembly (disassembly words) answer → answer ≡ Ok words }
 {}
+
+/// No two programs of at most 4,096 words have the same text.
+#[tactic(auto, using(crate::proofs::Law::same_words))]
+pub fn texts_tell_their_words()
+    ensures { (a b : List ℕ) → length a ≤ MOST_WORDS → length b ≤ MOST_WORDS → All (λ w. w < 2 ^ 64) a → All (λ w. w < 2 ^ 64) b → disassembly a ≡ disassembly b → a ≡ b }
+{}
