@@ -35,22 +35,38 @@ def tokens(count):
 
 
 def loop_job(turns):
-    """Twelve processors, each of which takes five instructions a turn."""
-    words = [
-        0xE002082700000000 + turns,  # ldi r0, turns
-        0xD00228270D9C11C0,          # sub.setf r0, r0, 1
-        0xF03809E7FFFFFFD8,          # brr.anynz -, -40
-        0x100009E7009E7000,          # nop
-        0x100009E7009E7000,          # nop
-        0x100009E7009E7000,          # nop
-        0x300009E7009E7000,          # nop; thrend
-        0x100009E7009E7000,          # nop
-        0x100009E7009E7000,          # nop
-    ]
+    """Twelve processors, each of which takes five instructions a turn, and four beside them."""
     lines = ["qpujob 1", "memory 16", "limit 1000000", "program a"]
-    lines += [f".word 0x{word:016x}" for word in words]
-    lines += ["endprogram"] + [f"start {q} a 0" for q in range(12)]
+    lines += [f"ldi r0, {turns}", ":loop sub.setf r0, r0, 1", "brr.anynz -, :loop", "nop", "nop", "nop"]
+    lines += ["nop; thrend", "nop", "nop", "endprogram"]
+    lines += [f"start {q} a 0" for q in range(12)]
     return "\n".join(lines) + "\n"
+
+
+def record_of(job, items):
+    """The record of a job and of items."""
+    return f"qpurecord 1\njob {len(job)}\n{job}schedule\n{items}endrecord\n"
+
+
+def record_of_steps(turns):
+    """A record of the same job whose processors take turns, one step an item."""
+    rounds = "".join(f"q {q} 1\n" for q in range(12))
+    return record_of(loop_job(turns), rounds * (5 * turns + 4))
+
+
+def record_of_stretches(turns):
+    """A record of the same job whose processors go one after another, one item each."""
+    return record_of(loop_job(turns), "".join(f"q {q} {5 * turns + 4}\n" for q in range(12)))
+
+
+def words(count):
+    """So many words, each in a line."""
+    return "0xd00049e1809f1000\n" * count
+
+
+def program(count):
+    """A straight program of so many words."""
+    return "add r0, r1, r2\n" * (count - 3) + "nop; thrend\nnop\nnop\n"
 
 
 def measure(words, text):
@@ -89,6 +105,14 @@ def main():
         row("asm, one line of tokens", ["asm"], tokens(count), count, "token")
     for turns in (25_000, 50_000, 100_000, 199_999):
         row("run -w 0, a loop on 12 processors", ["run", "-w", "0"], loop_job(turns), 60 * turns, "instruction")
+    for turns in (25_000, 50_000, 100_000, 199_999):
+        row("replay of its record", ["replay"], record_of_stretches(turns), 60 * turns, "instruction")
+    for turns in (22_500, 45_000, 90_000, 180_000):
+        row("replay, one step an item", ["replay"], record_of_steps(turns), 60 * turns, "item")
+    for count in (51_200, 102_400, 204_800, 409_600):
+        row("dis, a word in each line", ["dis"], words(count), count, "word")
+    for count in (512, 1_024, 2_048, 4_096):
+        row("check, a straight program", ["check"], program(count), count, "word")
 
 
 if __name__ == "__main__":

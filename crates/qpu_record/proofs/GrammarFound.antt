@@ -14,8 +14,7 @@ use Rattle.qpu_record.specs.Lines.{LF, first_line, is_lf}
 use Rattle.qpu_record.specs.Numbers.{number_of}
 use Rattle.qpu_record.specs.Items.{item_at}
 use Rattle.qpu_record.specs.Heading.{Heading, and_then, or_line, that_fit, line_behind, begins_lf, opening, size_line, job_part, schedule_line, with_schedule, with_job, heading_of}
-use Rattle.qpu_record.specs.Reading.{Schedule, Parts, is_end, ended, open_item, schedule_of, after_heading, record_of}
-use Rattle.qpu_record.specs.Reading.{with_job as in_parts}
+use Rattle.qpu_record.specs.Reading.{Schedule, Parts, parts_with, is_end, ended, open_item, schedule_of, after_heading, record_of}
 use Rattle.qpu_record.specs.Grammar.{IsItem, put, IsBehind, nothing, line_end, IsRecord, ReadsRecordsAlone}
 use Rattle.qpu_record.proofs.GrammarLemmas.{item_ends}
 use Rattle.qpu_record.proofs.GrammarOnly.{front_grouped, feeds_front, line_of_items}
@@ -168,6 +167,13 @@ heading_join text opened size sized part rest small first second third last = re
       omega (arith, small, a, b, c, d, third.long);
 }
 
+heading_same : (text opened : List ℕ) (size : ℕ) (sized : List ℕ) (part heading : Heading) (rest : List ℕ) → length text < 2 ^ 64 → text ≡ codes "qpurecord 1\n" ++ opened
+    → IsSizeLine opened size sized → IsJobPart size sized part → part.rest ≡ codes "schedule\n" ++ rest
+    → ◌≡◌ {A = Result Heading RecordFault} (Ok (record { job = part.job; rest = rest; number = part.number + 1 })) (Ok heading) → IsHeading text heading
+heading_same text opened size sized part heading rest small first second third last e =
+    let same : ◌≡◌ {A = Heading} (record { job = part.job; rest = rest; number = part.number + 1 }) heading = cc in
+    subst (IsHeading text) same (heading_join text opened size sized part rest small first second third last)
+
 heading_found : (text : List ℕ) (heading : Heading) → length text < 2 ^ 64 → heading_of text ≡ Ok heading → IsHeading text heading
 unfolding heading_of
 heading_found text heading small e =
@@ -180,8 +186,7 @@ heading_found text heading small e =
     let job = job_found second.0.0 second.0.1 third.0 size.fits third.1 in
     let last = goes_on (schedule_line third.0.number third.0.rest) (λ (rest : List ℕ). Ok (record { job = third.0.job; rest = rest; number = third.0.number + 1 })) heading third.2 in
     let line = schedule_line_found third.0.number third.0.rest last.0 last.1 in
-    let same : ◌≡◌ {A = Heading} (record { job = third.0.job; rest = last.0; number = third.0.number + 1 }) heading = cc in
-    subst (IsHeading text) same (heading_join text first.0 second.0.0 second.0.1 third.0 last.0 small opened size job line)
+    heading_same text first.0 second.0.0 second.0.1 third.0 heading last.0 small opened size job line last.2
 
 -- the items
 
@@ -257,7 +262,7 @@ items_found number runs line (byte ∷ text) schedule e =
 
 -- the whole
 
-whole : (text : List ℕ) (heading : Heading) (schedule : Schedule) → IsHeading text heading → AreItems heading.number [] heading.rest schedule → IsRecord text (in_parts heading.job schedule)
+whole : (text : List ℕ) (heading : Heading) (schedule : Schedule) → IsHeading text heading → AreItems heading.number [] heading.rest schedule → IsRecord text (parts_with heading.job schedule)
 whole text heading schedule head are = record {
   items = are.items;
   ranges = are.ranges;
@@ -274,7 +279,7 @@ unfolding record_of
 records_alone text parts fits e =
     let first = goes_on (heading_of text) after_heading parts e in
     let head = heading_found text first.0 fits first.1 in
-    let second = goes_on (schedule_of first.0.number [] [] first.0.rest) (λ (schedule : Schedule). Ok (in_parts first.0.job schedule)) parts first.2 in
+    let second = goes_on (schedule_of first.0.number [] [] first.0.rest) (λ (schedule : Schedule). Ok (parts_with first.0.job schedule)) parts first.2 in
     let are = items_found first.0.number [] [] first.0.rest second.0 second.1 in
-    let same : ◌≡◌ {A = Parts} (in_parts first.0.job second.0) parts = cc in
+    let same : ◌≡◌ {A = Parts} (parts_with first.0.job second.0) parts = cc in
     subst (IsRecord text) same (whole text first.0 second.0 head are)

@@ -10,12 +10,13 @@ use Rattle.qpu_io.specs.Text.{in_turn}
 use Rattle.qpu_machine.specs.declared.actor.Actor.{Actor}
 use Rattle.qpu_machine.specs.declared.journal.Run.{Run}
 use Rattle.qpu_machine.specs.Journal.{IsMerged, is_same_actor, pushed}
-use Rattle.qpu_machine.proofs.JournalLemmas.{is_same, not_of}
-use Rattle.qpu_record.specs.Record.{item_text, ends_line, missing_line_end, with_step, merged, runs_text, record_text}
+use Rattle.qpu_machine.proofs.JournalLemmas.{not_of}
+use Rattle.qpu_record.specs.Record.{item_text, ends_line, missing_line_end, merged, runs_text, record_text}
 use Rattle.qpu_record.specs.Lines.{LF, cut_at, is_lf, line_feeds}
 use Rattle.qpu_record.specs.Heading.{line_behind, opening, size_line, job_part, schedule_line, heading_of}
 use Rattle.qpu_record.specs.Reading.{Parts, schedule_of, record_of}
 use Rattle.qpu_record.specs.Grammar.{IsItem, put, put_together, front_text, IsBehind, nothing, line_end, ReadsEveryRecord, RecordsAreRead}
+use Rattle.qpu_record.proofs.MergedLemmas.{is_merged}
 use Rattle.qpu_record.proofs.LineLemmas.{is_mark}
 use Rattle.qpu_record.proofs.ReadLemmas.{by_first_line}
 use Rattle.qpu_record.proofs.GrammarLemmas.{Lacks, cut_behind, cut_nowhere, number_lacks, number_read, item_line, item_ends, line_lacks, no_end, item_read}
@@ -210,27 +211,6 @@ stays : (runs : List Run) → IsMerged runs → put_together runs ≡ runs
 unfolding pushed
 stays [] all = refl
 stays (run ∷ runs) all = put_behind runs [] run all
-
--- merged steps are merged runs
-
-step_by : (actor : Actor) (run : Run) (same : Bool) → is_same_actor actor run.actor ≡ same → actor ≡ run.actor → same ≡ true
-step_by actor run same is e = sym is ∙ rw e (is_same run.actor)
-
-with_merged_by : (actor : Actor) (run : Run) (runs : List Run) (same : Bool) → is_same_actor actor run.actor ≡ same → IsMerged (run ∷ runs)
-    → IsMerged (if same then (record run { count = run.count + 1 }) ∷ runs else (record { actor = actor; count = 1 }) ∷ run ∷ runs)
-with_merged_by actor run [] true is all = omega arith
-with_merged_by actor run (next ∷ runs) true is all = (omega arith, all.1, all.2)
-with_merged_by actor run runs false is all =
-    (omega arith, λ e. absurd (let f = step_by actor run false is e in cc), all)
-
-with_merged : (actor : Actor) (runs : List Run) → IsMerged runs → IsMerged (with_step actor runs)
-with_merged actor [] all = omega arith
-with_merged actor (run ∷ runs) all = with_merged_by actor run runs (is_same_actor actor run.actor) refl all
-
-is_merged : (s : List Actor) → IsMerged (merged s)
-unfolding merged
-is_merged [] = tt
-is_merged (actor ∷ s) = with_merged actor (merged s) (is_merged s)
 
 -- a record that was written
 

@@ -1,9 +1,11 @@
 -- Runs that are merged are what their steps are merged to.
-use Rattle.std.proofs.Common.{◌≡◌, ◌≢◌, ◌≤◌, ℕ, ◌+◌, zero, suc, List, [], ◌∷◌, ◌++◌, replicate, refl, ap, arith}
+use Rattle.std.proofs.Common.{Bool, true, false, add-one, sym, ◌∙◌, ◌≡◌, ◌≢◌, ◌≤◌, ℕ, ◌+◌, zero, suc, List, [], ◌∷◌, ◌++◌, replicate, refl, ap, arith}
 use Rattle.qpu_machine.specs.declared.actor.Actor.{Actor}
 use Rattle.qpu_machine.specs.declared.journal.Run.{Run}
 use Rattle.qpu_machine.specs.Journal.{IsMerged, is_same_actor, steps_of}
-use Rattle.qpu_machine.proofs.JournalLemmas.{is_same, not_of}
+use Rattle.qpu_machine.proofs.JournalLemmas.{is_same, same_is, not_of}
+use Rattle.std.specs.Prelude.{if◌then◌else◌}
+use Rattle.qpu_record.specs.Apart.{KeepsSteps}
 use Rattle.qpu_record.specs.Record.{with_step, merged, record_text, runs_text}
 
 -- the first of these runs, where there is one, is of another actor
@@ -44,3 +46,43 @@ merged_back (run ∷ next ∷ runs) all =
 pub record_back : (job : List ℕ) (runs : List Run) → IsMerged runs → record_text job (steps_of runs) ≡ runs_text job runs
 unfolding record_text
 record_back job runs all = ap (runs_text job) (merged_back runs all)
+
+-- merged steps are merged runs
+
+step_by : (actor : Actor) (run : Run) (same : Bool) → is_same_actor actor run.actor ≡ same → actor ≡ run.actor → same ≡ true
+step_by actor run same is e = sym is ∙ rw e (is_same run.actor)
+
+with_merged_by : (actor : Actor) (run : Run) (runs : List Run) (same : Bool) → is_same_actor actor run.actor ≡ same → IsMerged (run ∷ runs)
+    → IsMerged (if same then (record run { count = run.count + 1 }) ∷ runs else (record { actor = actor; count = 1 }) ∷ run ∷ runs)
+with_merged_by actor run [] true is all = omega arith
+with_merged_by actor run (next ∷ runs) true is all = (omega arith, all.1, all.2)
+with_merged_by actor run runs false is all =
+    (omega arith, λ e. absurd (let f = step_by actor run false is e in cc), all)
+
+with_merged : (actor : Actor) (runs : List Run) → IsMerged runs → IsMerged (with_step actor runs)
+with_merged actor [] all = omega arith
+with_merged actor (run ∷ runs) all = with_merged_by actor run runs (is_same_actor actor run.actor) refl all
+
+pub is_merged : (s : List Actor) → IsMerged (merged s)
+unfolding merged
+is_merged [] = tt
+is_merged (actor ∷ s) = with_merged actor (merged s) (is_merged s)
+
+-- merged runs spell the steps
+
+spells_by : (actor : Actor) (run : Run) (runs : List Run) (same : Bool) → is_same_actor actor run.actor ≡ same
+    → steps_of (if same then (record run { count = run.count + 1 }) ∷ runs else (record { actor = actor; count = 1 }) ∷ run ∷ runs) ≡ actor ∷ steps_of (run ∷ runs)
+spells_by actor run runs true is = rw (add-one, same_is actor run.actor is) refl
+spells_by actor run runs false is = refl
+
+with_spells : (actor : Actor) (runs : List Run) → steps_of (with_step actor runs) ≡ actor ∷ steps_of runs
+with_spells actor [] = refl
+with_spells actor (run ∷ runs) = spells_by actor run runs (is_same_actor actor run.actor) refl
+
+merged_spells : (s : List Actor) → steps_of (merged s) ≡ s
+unfolding merged
+merged_spells [] = refl
+merged_spells (actor ∷ s) = with_spells actor (merged s) ∙ ap (λ (t : List Actor). actor ∷ t) (merged_spells s)
+
+pub keeps_steps : KeepsSteps
+keeps_steps s = (is_merged s, merged_spells s)

@@ -1,9 +1,10 @@
--- A record spells one schedule. This project's own.
+-- A record spells one schedule, the one that it was written of. This project's own.
 use Rattle.std.specs.Prelude.{◌≡◌, ℕ, ◌<◌, ◌^◌, List}
 use Rattle.std.specs.List.{AllByRecursion}
 use Rattle.qpu_machine.specs.declared.actor.Actor.{Actor}
 use Rattle.qpu_machine.specs.declared.actor.Actor.TheVariants.{Exec, Load, Store, Fetch}
 use Rattle.qpu_machine.specs.declared.journal.Run.{Run}
+use Rattle.qpu_machine.specs.Journal.{IsMerged, steps_of}
 use Rattle.qpu_record.specs.Record.{merged, record_text}
 
 -- an actor's numbers have 64 bits
@@ -22,3 +23,7 @@ abbrev pub SpellsOneSchedule : Type 0
 SpellsOneSchedule =
     (job : List ℕ) (s t : List Actor) → AllByRecursion IsRunOf64 (merged s) → AllByRecursion IsRunOf64 (merged t)
     → record_text job s ≡ record_text job t → merged s ≡ merged t
+
+-- putting neighbours of one actor together keeps the steps, and leaves no two such neighbours
+abbrev pub KeepsSteps : Type 0
+KeepsSteps = (s : List Actor) → IsMerged (merged s) × (steps_of (merged s) ≡ s)

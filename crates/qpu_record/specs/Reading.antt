@@ -44,13 +44,13 @@ schedule_of number runs line (byte ∷ text) =
     else and_then (item_at number line) (λ run. schedule_of (number + 1) (pushed runs run.actor run.count) [] text))
     else schedule_of number runs (line ++ byte ∷ []) text
 
-abbrev pub with_job : List ℕ → Schedule → Parts
-with_job job schedule =
+abbrev pub parts_with : List ℕ → Schedule → Parts
+parts_with job schedule =
     record { job = job; runs = schedule.runs; rest = schedule.rest; rest_line = schedule.rest_line }
 
 abbrev pub after_heading : Heading → Result Parts RecordFault
 after_heading heading =
-    and_then (schedule_of heading.number [] [] heading.rest) (λ schedule. Ok (with_job heading.job schedule))
+    and_then (schedule_of heading.number [] [] heading.rest) (λ schedule. Ok (parts_with heading.job schedule))
 
 -- what a record has, or its first fault
 unfoldable pub record_of : List ℕ → Result Parts RecordFault

@@ -29,6 +29,7 @@ pub(crate) struct Heading<'a> {
 pub(crate) fn heading_of(text: &str) -> Result<Heading<'_>, RecordFault>
     requires { length text.now ≤ MOST_TEXT }
     ensures is { seen told result ≡ heading_of text.now }
+    ensures sizes { IfOk result (λ heading. length heading.job.now + length heading.rest.now ≤ length text.now) }
     ensures lines { IfOk result (λ heading. heading.number + length heading.rest.now ≤ length text.now) }
 {
     let text = opening(text)?;
@@ -89,6 +90,7 @@ fn job_part(size: usize, text: &str) -> Result<Heading<'_>, RecordFault>
     requires fits { size ≤ length text.now }
     requires most { length text.now ≤ MOST_TEXT }
     ensures is { seen told result ≡ job_part size text.now }
+    ensures sizes { IfOk result (λ heading. length heading.job.now + length heading.rest.now ≤ length text.now) }
     ensures lines { IfOk result (λ heading. heading.number + length heading.rest.now ≤ length text.now + 3) }
 {
     let bytes = text.as_bytes();

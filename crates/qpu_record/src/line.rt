@@ -1,6 +1,6 @@
 //! The lines of a record.
 
-ghost use Rattle.std.specs.Prelude.{◌≡◌, ◌+◌, true, length, position};
+ghost use Rattle.std.specs.Prelude.{◌≡◌, ◌+◌, true, false, length, position};
 ghost use Rattle.qpu_record.specs.Lines.{is_lf, cut_of, first_line, line_feeds};
 
 /// Line feed.
@@ -20,6 +20,7 @@ pub(crate) struct Line<'a> {
 /// The first line of a text. Of a text without line feed this is all of it.
 pub(crate) fn first_line(text: &str) -> Line<'_>
     ensures cut { cut_of result ≡ first_line text.now }
+    ensures nothing { result.ended ≡ false → length result.rest.now ≡ 0 }
     ensures parts { result.ended ≡ true → length result.front.now + length result.rest.now + 1 ≡ length text.now }
 {
     let bytes = text.as_bytes();

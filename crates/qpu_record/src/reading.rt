@@ -29,7 +29,9 @@ pub(crate) struct Schedule<'a> {
 #[tactic(auto, unfolding(crate::specs::Reading::record_of))]
 pub fn read_record(alloc: Global, text: &str) -> Result<RecordParts, RecordFault>
     requires { length text.now ≤ MOST_TEXT }
-    ensures { Gives parts_of result (record_of text.now) }
+    ensures answer { Gives parts_of result (record_of text.now) }
+    ensures sizes { IfOk result (λ parts. length (string_bytes parts.job) + length (string_bytes parts.rest) ≤ length text.now) }
+    ensures lines { IfOk result (λ parts. parts.rest_line + length (string_bytes parts.rest) ≤ MOST_TEXT + 1) }
 {
     let heading = heading_of(text)?;
     let schedule = read_items(alloc, heading.number, heading.rest)?;
@@ -46,7 +48,9 @@ pub fn read_record(alloc: Global, text: &str) -> Result<RecordParts, RecordFault
 /// The items from a line of this number on, up to the line `endrecord`.
 fn read_items(alloc: Global, first: u32, text: &str) -> Result<Schedule<'_>, RecordFault>
     requires { first + length text.now ≤ MOST_TEXT }
-    ensures { Gives schedule_told result (schedule_of first [] [] text.now) }
+    ensures answer { Gives schedule_told result (schedule_of first [] [] text.now) }
+    ensures sizes { IfOk result (λ schedule. length schedule.rest.now ≤ length text.now) }
+    ensures lines { IfOk result (λ schedule. schedule.rest_line + length schedule.rest.now ≤ MOST_TEXT + 1) }
 {
     let mut journal = Journal::new(alloc);
     let mut rest = text;

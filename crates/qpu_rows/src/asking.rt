@@ -18,6 +18,9 @@ pub const DIS: [&str; 1] = ["dis"];
 /// The word of the checker.
 pub const CHECK: [&str; 1] = ["check"];
 
+/// The word of a replay.
+pub const REPLAY: [&str; 1] = ["replay"];
+
 /// A job that is run, and what it gives.
 #[derive(Clone, Copy)]
 pub struct Row {

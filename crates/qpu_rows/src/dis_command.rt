@@ -69,7 +69,10 @@ fn lines_that_are_written_are_assembled_to_their_words(rt: HostRuntime) -> Resul
     for (word, line) in WORKED {
         let answer = answered(alloc, &ASM, line.as_bytes(), &[], &[])?;
         assert!(rt; answer.status == Status::Done, "{line}");
-        assert!(rt; answer.text.as_slice().starts_with(word.as_bytes()), "{line}");
+        assert!(rt;
+            answer.text.as_slice().starts_with(word.as_bytes()),
+            "{line}"
+        );
         assert!(rt; answer.text.len() == word.len() + 1, "{line}");
     }
     let raw = answered(alloc, &ASM, b".word 0x10020827019e7280\n", &[], &[])?;

@@ -22,7 +22,7 @@ pub const NOTHING: Row = Row {
         ",
 };
 
-/// `add r0, unif, unifb`; `or r1, unif, unif`; `or r2, unif, unif`; the end.
+/// Three words that read uniforms, of which two lie inside memory.
 pub const UNIFORMS: Row = Row {
     job: "\
         qpujob 1\n\
@@ -30,16 +30,16 @@ pub const UNIFORMS: Row = Row {
         limit 100\n\
         data 0 5 6\n\
         program a\n\
-        .word 0x100208270c820dc0\n\
-        .word 0x1002086715827d80\n\
-        .word 0x100208a715827d80\n\
-        .word 0x300009e7009e7000\n\
-        .word 0x100009e7009e7000\n\
-        .word 0x100009e7009e7000\n\
+        add r0, unif, unifb\n\
+        or r1, unif, unif\n\
+        or r2, unif, unif\n\
+        nop; thrend\n\
+        nop\n\
+        nop\n\
         endprogram\n\
         start 0 a 0\n\
         ",
-    size: "222",
+    size: "148",
     status: Status::Faulted,
     rest: "\
         schedule\n\
@@ -55,7 +55,7 @@ pub const UNIFORMS: Row = Row {
         ",
 };
 
-/// `or t0s, r0, r0`; `nop; ldtmu0`; `or r1, r4, r4`; the end.
+/// One look-up, fetched by a step of its own.
 pub const LOOK_UP: Row = Row {
     job: "\
         qpujob 1\n\
@@ -63,16 +63,16 @@ pub const LOOK_UP: Row = Row {
         limit 100\n\
         data 0 7\n\
         program a\n\
-        .word 0x10020e27159e7000\n\
-        .word 0xa00009e7009e7000\n\
-        .word 0x10020867159e7900\n\
-        .word 0x300009e7009e7000\n\
-        .word 0x100009e7009e7000\n\
-        .word 0x100009e7009e7000\n\
+        or t0s, r0, r0\n\
+        nop; ldtmu0\n\
+        or r1, r4, r4\n\
+        nop; thrend\n\
+        nop\n\
+        nop\n\
         endprogram\n\
         start 0 a 0\n\
         ",
-    size: "221",
+    size: "132",
     status: Status::Done,
     rest: "\
         schedule\n\
@@ -106,11 +106,11 @@ pub const LOOSE: Row = Row {
         \n\
         .word 0x300009E7009E7000 # nop; thrend\n\
         \t.word\t1152932392359325696\r\n\
-        .word 0x100009e7009e7000\n\
+        nop\n\
         endprogram\r\n\
         start 0x3 0x10 0\n\
         ",
-    size: "255",
+    size: "234",
     status: Status::Done,
     rest: "\
         schedule\n\

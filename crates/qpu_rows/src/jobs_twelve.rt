@@ -13,29 +13,29 @@ pub const TWELVE: Row = Row {
         data 64 7\n\
         data 828 9\n\
         program a\n\
-        .word 0x10020827159e6fc0\n\
-        .word 0xd0020827119c61c0\n\
-        .word 0x10020867159a7d80\n\
-        .word 0xd0020867119c23c0\n\
-        .word 0x100208670c9e7200\n\
-        .word 0x10020e270c827380\n\
-        .word 0x100208a715827d80\n\
-        .word 0xa00009e7009e7000\n\
-        .word 0x100208a70c9e7880\n\
-        .word 0xe00208e700001a00\n\
-        .word 0x10021c670c9e67c0\n\
-        .word 0x10020c27159e7480\n\
-        .word 0xd0020867119c11c0\n\
-        .word 0xe00208e780904000\n\
-        .word 0x10021c670c9e7640\n\
-        .word 0x100209e715ce7d80\n\
-        .word 0x10021ca70c827180\n\
-        .word 0x100209e7159f2fc0\n\
-        .word 0x10020ce7159e7000\n\
-        .word 0x100209a7159e7000\n\
-        .word 0x300009e7009e7000\n\
-        .word 0x100009e7009e7000\n\
-        .word 0x100009e7009e7000\n\
+        or r0, qpu_num, qpu_num\n\
+        shl r0, r0, 6\n\
+        or r1, elem_num, elem_num\n\
+        shl r1, r1, 2\n\
+        add r1, r1, r0\n\
+        add t0s, r1, unif\n\
+        or r2, unif, unif\n\
+        nop; ldtmu0\n\
+        add r2, r4, r2\n\
+        ldi r3, 0x00001a00\n\
+        add vw_setup, r3, qpu_num\n\
+        or vpm, r2, r2\n\
+        shl r1, r0, 1\n\
+        ldi r3, 0x80904000\n\
+        add vw_setup, r3, r1\n\
+        or -, mutex_acq, mutex_acq\n\
+        add vw_addr, r0, unif\n\
+        or -, vpm_st_wait, vpm_st_wait\n\
+        or mutex_rel, r0, r0\n\
+        or host_int, r0, r0\n\
+        nop; thrend\n\
+        nop\n\
+        nop\n\
         endprogram\n\
         start 0 a 0\n\
         start 1 a 0\n\
@@ -50,7 +50,7 @@ pub const TWELVE: Row = Row {
         start 10 a 0\n\
         start 11 a 0\n\
         ",
-    size: "814",
+    size: "650",
     status: Status::Done,
     rest: "\
         schedule\n\

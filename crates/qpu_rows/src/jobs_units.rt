@@ -2,25 +2,24 @@
 use crate::asking::Row;
 use qpu_tool::Status;
 
-/// `ldi r0, 0x00ffffff`; `nop; mul24 r1, r0, r0`; `sub.setf r2, r3, 1; mul24 r3, r3, r3`; `clz
-/// r3, r3`; the end.
+/// A product of 24 bits, a borrow in every lane, and the zeros in front of 0.
 pub const CARRIES: Row = Row {
     job: "\
         qpujob 1\n\
         memory 16\n\
         limit 100\n\
         program a\n\
-        .word 0xe002082700ffffff\n\
-        .word 0x100049e1409e7000\n\
-        .word 0xd00268a34d9c17db\n\
-        .word 0x100208e7189e76c0\n\
-        .word 0x300009e7009e7000\n\
-        .word 0x100009e7009e7000\n\
-        .word 0x100009e7009e7000\n\
+        ldi r0, 0x00ffffff\n\
+        nop; mul24 r1, r0, r0\n\
+        sub.setf r2, r3, 1; mul24 r3, r3, r3\n\
+        clz r3, r3\n\
+        nop; thrend\n\
+        nop\n\
+        nop\n\
         endprogram\n\
         start 0 a 0\n\
         ",
-    size: "237",
+    size: "171",
     status: Status::Done,
     rest: "\
         schedule\n\
@@ -38,25 +37,24 @@ pub const CARRIES: Row = Row {
         ",
 };
 
-/// `or r0, elem_num, elem_num`; `nop`; `nop; v8min r1, r0, r0; rot 1`; `nop; v8min r2, r0, r0;
-/// rot r5`; the end.
+/// Lanes rotated by a number, and by an accumulator that is 0.
 pub const ROTATIONS: Row = Row {
     job: "\
         qpujob 1\n\
         memory 16\n\
         limit 100\n\
         program a\n\
-        .word 0x10020827159a7d80\n\
-        .word 0x100009e7009e7000\n\
-        .word 0xd00049e1809f1000\n\
-        .word 0xd00049e2809f0000\n\
-        .word 0x300009e7009e7000\n\
-        .word 0x100009e7009e7000\n\
-        .word 0x100009e7009e7000\n\
+        or r0, elem_num, elem_num\n\
+        nop\n\
+        nop; v8min r1, r0, r0; rot 1\n\
+        nop; v8min r2, r0, r0; rot r5\n\
+        nop; thrend\n\
+        nop\n\
+        nop\n\
         endprogram\n\
         start 0 a 0\n\
         ",
-    size: "237",
+    size: "171",
     status: Status::Done,
     rest: "\
         schedule\n\
@@ -72,28 +70,27 @@ pub const ROTATIONS: Row = Row {
         ",
 };
 
-/// `ldi r0, 0xff01ff01`; `ldi r1, 0x02020202`; `v8adds r2, r0, r1`; `ldi r3, 300`; `or ra0.8as,
-/// r3, r3`; `ldi ra1, 0xffffffff`; `or ra1.8as, -1, -1`; the end.
+/// Sums of bytes that stop at 255, and packing that clamps to a byte.
 pub const PACKS: Row = Row {
     job: "\
         qpujob 1\n\
         memory 16\n\
         limit 100\n\
         program a\n\
-        .word 0xe0020827ff01ff01\n\
-        .word 0xe002086702020202\n\
-        .word 0x100208a71e9e7040\n\
-        .word 0xe00208e70000012c\n\
-        .word 0x10c20027159e76c0\n\
-        .word 0xe0020067ffffffff\n\
-        .word 0xd0c20067159dffc0\n\
-        .word 0x300009e7009e7000\n\
-        .word 0x100009e7009e7000\n\
-        .word 0x100009e7009e7000\n\
+        ldi r0, 0xff01ff01\n\
+        ldi r1, 0x02020202\n\
+        v8adds r2, r0, r1\n\
+        ldi r3, 300\n\
+        or ra0.8as, r3, r3\n\
+        ldi ra1, 0xffffffff\n\
+        or ra1.8as, -1, -1\n\
+        nop; thrend\n\
+        nop\n\
+        nop\n\
         endprogram\n\
         start 0 a 0\n\
         ",
-    size: "312",
+    size: "208",
     status: Status::Done,
     rest: "\
         schedule\n\
@@ -112,24 +109,23 @@ pub const PACKS: Row = Row {
         ",
 };
 
-/// `or ra1, r0, r0`; `nop`; `or r2, ra1, ra1`; the end: the row is read two words after it was
-/// written.
+/// A row that is read two words after it was written.
 pub const NEIGHBOUR: Row = Row {
     job: "\
         qpujob 1\n\
         memory 16\n\
         limit 100\n\
         program a\n\
-        .word 0x10020067159e7000\n\
-        .word 0x100009e7009e7000\n\
-        .word 0x100208a715067d80\n\
-        .word 0x300009e7009e7000\n\
-        .word 0x100009e7009e7000\n\
-        .word 0x100009e7009e7000\n\
+        or ra1, r0, r0\n\
+        nop\n\
+        or r2, ra1, ra1\n\
+        nop; thrend\n\
+        nop\n\
+        nop\n\
         endprogram\n\
         start 0 a 0\n\
         ",
-    size: "212",
+    size: "117",
     status: Status::Done,
     rest: "\
         schedule\n\
@@ -142,27 +138,26 @@ pub const NEIGHBOUR: Row = Row {
         ",
 };
 
-/// `brr -, :t`; `nop`; `nop`; `or ra1, r0, r0`; `or r2, ra1, ra1`; `:t nop`; the end: the word
-/// after the last slot is never executed.
+/// A word behind the last slot of a branch, which is never executed.
 pub const PASSED_BY: Row = Row {
     job: "\
         qpujob 1\n\
         memory 16\n\
         limit 100\n\
         program a\n\
-        .word 0xf0f809e700000008\n\
-        .word 0x100009e7009e7000\n\
-        .word 0x100009e7009e7000\n\
-        .word 0x10020067159e7000\n\
-        .word 0x100208a715067d80\n\
-        .word 0x100009e7009e7000\n\
-        .word 0x300009e7009e7000\n\
-        .word 0x100009e7009e7000\n\
-        .word 0x100009e7009e7000\n\
+        brr -, :t\n\
+        nop\n\
+        nop\n\
+        or ra1, r0, r0\n\
+        or r2, ra1, ra1\n\
+        :t nop\n\
+        nop; thrend\n\
+        nop\n\
+        nop\n\
         endprogram\n\
         start 0 a 0\n\
         ",
-    size: "287",
+    size: "138",
     status: Status::Done,
     rest: "\
         schedule\n\

@@ -2,25 +2,24 @@
 use crate::asking::Row;
 use qpu_tool::Status;
 
-/// `ldi vw_setup, 0x0000023f`; `or vpm, elem_num, elem_num`; `ldi vr_setup, 0x00100a3f`; `or r0,
-/// vpm, vpm`; the end.
+/// A column that is written, and a row that is read.
 pub const DOWN_AND_ACROSS: Row = Row {
     job: "\
         qpujob 1\n\
         memory 16\n\
         limit 100\n\
         program a\n\
-        .word 0xe0021c670000023f\n\
-        .word 0x10020c27159a7d80\n\
-        .word 0xe0020c6700100a3f\n\
-        .word 0x1002082715c27d80\n\
-        .word 0x300009e7009e7000\n\
-        .word 0x100009e7009e7000\n\
-        .word 0x100009e7009e7000\n\
+        ldi vw_setup, 0x0000023f\n\
+        or vpm, elem_num, elem_num\n\
+        ldi vr_setup, 0x00100a3f\n\
+        or r0, vpm, vpm\n\
+        nop; thrend\n\
+        nop\n\
+        nop\n\
         endprogram\n\
         start 0 a 0\n\
         ",
-    size: "237",
+    size: "175",
     status: Status::Done,
     rest: "\
         schedule\n\
@@ -49,39 +48,38 @@ pub const DOWN_AND_ACROSS: Row = Row {
         ",
 };
 
-/// `ldi vr_setup, 0x00001a00`, which is of 16 vectors; seventeen times `or r0, vpm, vpm`; the
-/// end.
+/// A read setup of 16 vectors, and seventeen reads.
 pub const ALL_READ: Row = Row {
     job: "\
         qpujob 1\n\
         memory 16\n\
         limit 100\n\
         program a\n\
-        .word 0xe0020c6700001a00\n\
-        .word 0x1002082715c27d80\n\
-        .word 0x1002082715c27d80\n\
-        .word 0x1002082715c27d80\n\
-        .word 0x1002082715c27d80\n\
-        .word 0x1002082715c27d80\n\
-        .word 0x1002082715c27d80\n\
-        .word 0x1002082715c27d80\n\
-        .word 0x1002082715c27d80\n\
-        .word 0x1002082715c27d80\n\
-        .word 0x1002082715c27d80\n\
-        .word 0x1002082715c27d80\n\
-        .word 0x1002082715c27d80\n\
-        .word 0x1002082715c27d80\n\
-        .word 0x1002082715c27d80\n\
-        .word 0x1002082715c27d80\n\
-        .word 0x1002082715c27d80\n\
-        .word 0x1002082715c27d80\n\
-        .word 0x300009e7009e7000\n\
-        .word 0x100009e7009e7000\n\
-        .word 0x100009e7009e7000\n\
+        ldi vr_setup, 0x00001a00\n\
+        or r0, vpm, vpm\n\
+        or r0, vpm, vpm\n\
+        or r0, vpm, vpm\n\
+        or r0, vpm, vpm\n\
+        or r0, vpm, vpm\n\
+        or r0, vpm, vpm\n\
+        or r0, vpm, vpm\n\
+        or r0, vpm, vpm\n\
+        or r0, vpm, vpm\n\
+        or r0, vpm, vpm\n\
+        or r0, vpm, vpm\n\
+        or r0, vpm, vpm\n\
+        or r0, vpm, vpm\n\
+        or r0, vpm, vpm\n\
+        or r0, vpm, vpm\n\
+        or r0, vpm, vpm\n\
+        or r0, vpm, vpm\n\
+        nop; thrend\n\
+        nop\n\
+        nop\n\
         endprogram\n\
         start 0 a 0\n\
         ",
-    size: "587",
+    size: "379",
     status: Status::Faulted,
     rest: "\
         schedule\n\
@@ -94,23 +92,23 @@ pub const ALL_READ: Row = Row {
         ",
 };
 
-/// `ldi vr_setup, 0x00001a00` three times; the end.
+/// A third read setup where two are unfinished.
 pub const SETUPS_FULL: Row = Row {
     job: "\
         qpujob 1\n\
         memory 16\n\
         limit 100\n\
         program a\n\
-        .word 0xe0020c6700001a00\n\
-        .word 0xe0020c6700001a00\n\
-        .word 0xe0020c6700001a00\n\
-        .word 0x300009e7009e7000\n\
-        .word 0x100009e7009e7000\n\
-        .word 0x100009e7009e7000\n\
+        ldi vr_setup, 0x00001a00\n\
+        ldi vr_setup, 0x00001a00\n\
+        ldi vr_setup, 0x00001a00\n\
+        nop; thrend\n\
+        nop\n\
+        nop\n\
         endprogram\n\
         start 0 a 0\n\
         ",
-    size: "212",
+    size: "157",
     status: Status::Faulted,
     rest: "\
         schedule\n\
@@ -123,22 +121,22 @@ pub const SETUPS_FULL: Row = Row {
         ",
 };
 
-/// `ldi vw_setup, 0x80104000`, a store of 128 rows; `ldi vw_addr, 0`; the end.
+/// A store of 128 rows, more than the VPM has.
 pub const STORE_OF_128: Row = Row {
     job: "\
         qpujob 1\n\
         memory 1024\n\
         limit 100\n\
         program a\n\
-        .word 0xe0021c6780104000\n\
-        .word 0xe0021ca700000000\n\
-        .word 0x300009e7009e7000\n\
-        .word 0x100009e7009e7000\n\
-        .word 0x100009e7009e7000\n\
+        ldi vw_setup, 0x80104000\n\
+        ldi vw_addr, 0x00000000\n\
+        nop; thrend\n\
+        nop\n\
+        nop\n\
         endprogram\n\
         start 0 a 0\n\
         ",
-    size: "189",
+    size: "133",
     status: Status::Faulted,
     rest: "\
         schedule\n\
@@ -151,22 +149,22 @@ pub const STORE_OF_128: Row = Row {
         ",
 };
 
-/// `ldi vw_setup, 0xa0104000`, a store of 64 rows of 16 words; `ldi vw_addr, 0`; the end.
+/// A store of 64 rows of 16 words.
 pub const STORE_OF_64: Row = Row {
     job: "\
         qpujob 1\n\
         memory 1024\n\
         limit 100\n\
         program a\n\
-        .word 0xe0021c67a0104000\n\
-        .word 0xe0021ca700000000\n\
-        .word 0x300009e7009e7000\n\
-        .word 0x100009e7009e7000\n\
-        .word 0x100009e7009e7000\n\
+        ldi vw_setup, 0xa0104000\n\
+        ldi vw_addr, 0x00000000\n\
+        nop; thrend\n\
+        nop\n\
+        nop\n\
         endprogram\n\
         start 0 a 0\n\
         ",
-    size: "189",
+    size: "133",
     status: Status::Done,
     rest: "\
         schedule\n\
@@ -188,15 +186,15 @@ pub const STORE_PAST_MEMORY: Row = Row {
         memory 1023\n\
         limit 100\n\
         program a\n\
-        .word 0xe0021c67a0104000\n\
-        .word 0xe0021ca700000000\n\
-        .word 0x300009e7009e7000\n\
-        .word 0x100009e7009e7000\n\
-        .word 0x100009e7009e7000\n\
+        ldi vw_setup, 0xa0104000\n\
+        ldi vw_addr, 0x00000000\n\
+        nop; thrend\n\
+        nop\n\
+        nop\n\
         endprogram\n\
         start 0 a 0\n\
         ",
-    size: "189",
+    size: "133",
     status: Status::Faulted,
     rest: "\
         schedule\n\
@@ -209,7 +207,7 @@ pub const STORE_PAST_MEMORY: Row = Row {
         ",
 };
 
-/// `ldi vr_setup, 0x80011000`; `ldi vr_addr, 0`; `or -, vpm_ld_wait, vpm_ld_wait`; the end.
+/// A load of one row, and the word that awaits it.
 pub const LOAD: Row = Row {
     job: "\
         qpujob 1\n\
@@ -217,16 +215,16 @@ pub const LOAD: Row = Row {
         limit 100\n\
         data 0 9\n\
         program a\n\
-        .word 0xe0020c6780011000\n\
-        .word 0xe0020ca700000000\n\
-        .word 0x100209e715ca7d80\n\
-        .word 0x300009e7009e7000\n\
-        .word 0x100009e7009e7000\n\
-        .word 0x100009e7009e7000\n\
+        ldi vr_setup, 0x80011000\n\
+        ldi vr_addr, 0x00000000\n\
+        or -, vpm_ld_wait, vpm_ld_wait\n\
+        nop; thrend\n\
+        nop\n\
+        nop\n\
         endprogram\n\
         start 0 a 0\n\
         ",
-    size: "221",
+    size: "171",
     status: Status::Done,
     rest: "\
         schedule\n\

@@ -2,30 +2,30 @@
 use crate::asking::Row;
 use qpu_tool::Status;
 
-/// Processor 0: `sinc 0`; `sdec 1`; the end. Processor 1: `sdec 0`; `sinc 1`; the end.
+/// Two processors that take turns by two semaphores.
 pub const HANDED_OVER: Row = Row {
     job: "\
         qpujob 1\n\
         memory 16\n\
         limit 100\n\
         program a\n\
-        .word 0xe80009e700000000\n\
-        .word 0xe80009e700000011\n\
-        .word 0x300009e7009e7000\n\
-        .word 0x100009e7009e7000\n\
-        .word 0x100009e7009e7000\n\
+        sinc 0\n\
+        sdec 1\n\
+        nop; thrend\n\
+        nop\n\
+        nop\n\
         endprogram\n\
         program b\n\
-        .word 0xe80009e700000010\n\
-        .word 0xe80009e700000001\n\
-        .word 0x300009e7009e7000\n\
-        .word 0x100009e7009e7000\n\
-        .word 0x100009e7009e7000\n\
+        sdec 0\n\
+        sinc 1\n\
+        nop; thrend\n\
+        nop\n\
+        nop\n\
         endprogram\n\
         start 0 a 0\n\
         start 1 b 0\n\
         ",
-    size: "345",
+    size: "163",
     status: Status::Done,
     rest: "\
         schedule\n\
@@ -43,23 +43,23 @@ pub const HANDED_OVER: Row = Row {
         ",
 };
 
-/// Both processors: `sdec 0`; `sinc 0`; the end.
+/// Two processors that both lower a semaphore first.
 pub const BOTH_WAIT: Row = Row {
     job: "\
         qpujob 1\n\
         memory 16\n\
         limit 100\n\
         program a\n\
-        .word 0xe80009e700000010\n\
-        .word 0xe80009e700000000\n\
-        .word 0x300009e7009e7000\n\
-        .word 0x100009e7009e7000\n\
-        .word 0x100009e7009e7000\n\
+        sdec 0\n\
+        sinc 0\n\
+        nop; thrend\n\
+        nop\n\
+        nop\n\
         endprogram\n\
         start 0 a 0\n\
         start 1 a 0\n\
         ",
-    size: "199",
+    size: "108",
     status: Status::Stuck,
     rest: "\
         schedule\n\
@@ -72,36 +72,23 @@ pub const BOTH_WAIT: Row = Row {
         ",
 };
 
-/// `sinc 3` sixteen times; the end.
+/// A semaphore that is raised sixteen times.
 pub const FIFTEEN: Row = Row {
     job: "\
         qpujob 1\n\
         memory 16\n\
         limit 100\n\
         program a\n\
-        .word 0xe80009e700000003\n\
-        .word 0xe80009e700000003\n\
-        .word 0xe80009e700000003\n\
-        .word 0xe80009e700000003\n\
-        .word 0xe80009e700000003\n\
-        .word 0xe80009e700000003\n\
-        .word 0xe80009e700000003\n\
-        .word 0xe80009e700000003\n\
-        .word 0xe80009e700000003\n\
-        .word 0xe80009e700000003\n\
-        .word 0xe80009e700000003\n\
-        .word 0xe80009e700000003\n\
-        .word 0xe80009e700000003\n\
-        .word 0xe80009e700000003\n\
-        .word 0xe80009e700000003\n\
-        .word 0xe80009e700000003\n\
-        .word 0x300009e7009e7000\n\
-        .word 0x100009e7009e7000\n\
-        .word 0x100009e7009e7000\n\
+        .rep 16\n\
+        sinc 3\n\
+        .endr\n\
+        nop; thrend\n\
+        nop\n\
+        nop\n\
         endprogram\n\
         start 0 a 0\n\
         ",
-    size: "537",
+    size: "103",
     status: Status::Stuck,
     rest: "\
         schedule\n\
@@ -115,22 +102,22 @@ pub const FIFTEEN: Row = Row {
         ",
 };
 
-/// Both processors: `or -, mutex_acq, mutex_acq`; the end.
+/// A processor that ends and keeps the mutex.
 pub const MUTEX_KEPT: Row = Row {
     job: "\
         qpujob 1\n\
         memory 16\n\
         limit 100\n\
         program a\n\
-        .word 0x100209e715ce7d80\n\
-        .word 0x300009e7009e7000\n\
-        .word 0x100009e7009e7000\n\
-        .word 0x100009e7009e7000\n\
+        or -, mutex_acq, mutex_acq\n\
+        nop; thrend\n\
+        nop\n\
+        nop\n\
         endprogram\n\
         start 0 a 0\n\
         start 1 a 0\n\
         ",
-    size: "174",
+    size: "121",
     status: Status::Stuck,
     rest: "\
         schedule\n\
@@ -145,21 +132,21 @@ pub const MUTEX_KEPT: Row = Row {
         ",
 };
 
-/// `:a brr -, :a`; three times `nop`.
+/// A loop without end.
 pub const ROUND_AND_ROUND: Row = Row {
     job: "\
         qpujob 1\n\
         memory 16\n\
         limit 1000\n\
         program a\n\
-        .word 0xf0f809e7ffffffe0\n\
-        .word 0x100009e7009e7000\n\
-        .word 0x100009e7009e7000\n\
-        .word 0x100009e7009e7000\n\
+        :a brr -, :a\n\
+        nop\n\
+        nop\n\
+        nop\n\
         endprogram\n\
         start 0 a 0\n\
         ",
-    size: "163",
+    size: "88",
     status: Status::RanOut,
     rest: "\
         schedule\n\
@@ -179,14 +166,14 @@ pub const NO_STEP: Row = Row {
         memory 16\n\
         limit 0\n\
         program a\n\
-        .word 0xf0f809e7ffffffe0\n\
-        .word 0x100009e7009e7000\n\
-        .word 0x100009e7009e7000\n\
-        .word 0x100009e7009e7000\n\
+        :a brr -, :a\n\
+        nop\n\
+        nop\n\
+        nop\n\
         endprogram\n\
         start 0 a 0\n\
         ",
-    size: "160",
+    size: "85",
     status: Status::RanOut,
     rest: "\
         schedule\n\
@@ -205,13 +192,13 @@ pub const ENDS_WITHOUT_A_STEP: Row = Row {
         memory 16\n\
         limit 0\n\
         program a\n\
-        .word 0x300009e7009e7000\n\
-        .word 0x100009e7009e7000\n\
-        .word 0x100009e7009e7000\n\
+        nop; thrend\n\
+        nop\n\
+        nop\n\
         endprogram\n\
         start 0 a 0\n\
         ",
-    size: "135",
+    size: "80",
     status: Status::RanOut,
     rest: "\
         schedule\n\

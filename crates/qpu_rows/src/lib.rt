@@ -36,6 +36,8 @@ mod jobs_waits;
 #[cfg(test)]
 mod refusals;
 #[cfg(test)]
+mod replays;
+#[cfg(test)]
 mod rows;
 #[cfg(test)]
 mod runs;

@@ -125,36 +125,54 @@ fn what_a_line_asks_too_much_is_told(rt: HostRuntime) -> Result<(), Fail> {
 }
 
 #[test]
-fn lines_of_programs_are_words(rt: HostRuntime) -> Result<(), Fail> {
+fn a_fault_of_a_program_has_its_line_of_the_job(rt: HostRuntime) -> Result<(), Fail> {
     let alloc = rt.alloc();
-    let rows: [(&[u8], &[u8]); 8] = [
-        (b"ldi r0, 1\n", b"refused job NotBuilt at line 5\n"),
-        (b".word\n", b"refused job NotBuilt at line 5\n"),
-        (b".word 1 2\n", b"refused job NotBuilt at line 5\n"),
-        (b".word 0x\n", b"refused job NotBuilt at line 5\n"),
+    let rows: [(&[u8], &[u8]); 9] = [
+        (b"foo r0\n", b"refused asm UnknownOp at line 5 column 1\n"),
+        (b".word\n", b"refused asm Shape at line 5 column 6\n"),
+        (b".word 1 2\n", b"refused asm Shape at line 5 column 9\n"),
         (
             b"# a comment\n\n.word 0x10000000000000000\n",
-            b"refused job NotBuilt at line 7\n",
+            b"refused asm NumberTooLarge at line 7 column 7\n",
         ),
         (
             b".word 0\nendprogram # not yet\n",
-            b"refused job NotBuilt at line 6\n",
+            b"refused asm UnknownOp at line 6 column 1\n",
         ),
         (
-            b".word 0x10020827019e7280\nendprogram\nprogram b\nnop\n",
-            b"refused job NotBuilt at line 8\n",
+            b".word 0x10020827019e7280\nendprogram\nprogram b\nnop\nor r0, 1, 2\n",
+            b"refused asm TwoImmediates at line 9 column 11\n",
         ),
         (
-            b"nop\nendprogram\nstart 0 a 0\nstart 12 a 0\nprogram b\n",
-            b"refused job Processor at line 8\n",
+            b"nop\nendprogram\nprogram b\nbrr -, :x\nendprogram\nprogram c\n:x nop\n",
+            b"refused asm Label at line 8 column 9\n",
+        ),
+        (
+            b".macro twice, d\nadd d, d, e\n.endm\ntwice r1\n",
+            b"refused asm Operands at line 6 column 11\n",
+        ),
+        (
+            b".rep 4097\n.endr\n",
+            b"refused asm Range at line 5 column 6\n",
         ),
     ];
     for (body, line) in rows {
         let job = joined(alloc, HEAD, body, TAIL)?;
         let answer = answered(alloc, &RUN, &job, &[], &[])?;
-        assert!(rt; answer.status == Status::JobRefused);
+        assert!(rt; answer.status == Status::AsmRefused);
         assert!(rt; answer.text.as_slice() == line);
     }
+    Ok(())
+}
+
+#[test]
+fn lines_of_the_job_come_before_its_programs(rt: HostRuntime) -> Result<(), Fail> {
+    let alloc = rt.alloc();
+    let body = b"foo\nendprogram\nstart 0 a 0\nstart 12 a 0\nprogram b\n";
+    let job = joined(alloc, HEAD, body, TAIL)?;
+    let answer = answered(alloc, &RUN, &job, &[], &[])?;
+    assert!(rt; answer.status == Status::JobRefused);
+    assert!(rt; answer.text.as_slice() == b"refused job Processor at line 8\n".as_slice());
     Ok(())
 }
 

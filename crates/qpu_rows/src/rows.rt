@@ -1,12 +1,15 @@
 use crate::asking::{RUN, answered};
-use crate::jobs::{FIRST, FIRST_OUTPUT, SECOND, SECOND_OUTPUT, WITHOUT_END};
+use crate::jobs::{
+    ASSEMBLED, ASSEMBLED_OUTPUT, FIRST, FIRST_OUTPUT, SECOND, SECOND_OUTPUT, WITHOUT_END,
+};
 use qpu_tool::{MOST_INPUT, Status};
 use std::test::Fail;
 
 #[test]
 fn words_of_one_processor_give_their_record_and_report(rt: HostRuntime) -> Result<(), Fail> {
     let alloc = rt.alloc();
-    let rows: [(&[u8], Status, &[u8]); 3] = [
+    let rows: [(&[u8], Status, &[u8]); 4] = [
+        (ASSEMBLED, Status::Done, ASSEMBLED_OUTPUT),
         (FIRST, Status::Done, FIRST_OUTPUT),
         (SECOND, Status::Done, SECOND_OUTPUT),
         (
@@ -26,7 +29,7 @@ fn words_of_one_processor_give_their_record_and_report(rt: HostRuntime) -> Resul
 #[test]
 fn other_words_are_no_command(rt: HostRuntime) -> Result<(), Fail> {
     let alloc = rt.alloc();
-    let rows: [&[&str]; 10] = [
+    let rows: [&[&str]; 12] = [
         &[],
         &["run"],
         &["run", "-w"],
@@ -37,6 +40,8 @@ fn other_words_are_no_command(rt: HostRuntime) -> Result<(), Fail> {
         &["run", "0", "-w"],
         &["asm", "0"],
         &["Asm"],
+        &["replay", "-w"],
+        &["check", ""],
     ];
     for words in rows {
         let answer = answered(alloc, words, FIRST, &[], &[])?;

@@ -1,8 +1,7 @@
-//! Jobs that are run to their end. Their words come from an assembler of the manual's tables that
-//! shares nothing with this project. What they give was worked out by hand; only the text of the
-//! twelve processors was written by an interpreter of its own, and then held against what each
-//! look-up, sum and store of that job must give.
-use crate::asking::{RUN, Row, answered, whole};
+//! Jobs that are run to their end, and what they write, replayed. What they give was worked out by
+//! hand; only the text of the twelve processors was written by an interpreter of its own, and then
+//! held against what each look-up, sum and store of that job must give.
+use crate::asking::{REPLAY, RUN, Row, answered, whole};
 use crate::jobs_memory::{LOOK_UP, LOOSE, NOTHING, UNIFORMS};
 use crate::jobs_twelve::TWELVE;
 use crate::jobs_units::{CARRIES, NEIGHBOUR, PACKS, PASSED_BY, ROTATIONS};
@@ -15,11 +14,36 @@ use crate::jobs_waits::{
 use std::alloc::{AllocError, Global};
 use std::test::Fail;
 
-/// Whether the run of a row's job answers as the row says.
+/// The report at the end of a text.
+fn report_of(rest: &str) -> &str {
+    match rest.find("report\nqpu ") {
+        Some(at) => rest.get(at..).unwrap_or(""),
+        None => rest
+            .get(rest.find("report\nmem ").unwrap_or(0)..)
+            .unwrap_or(""),
+    }
+}
+
+/// Whether a record is replayed to a report, with the status of its run.
+fn replays(alloc: Global, record: &[u8], row: &Row) -> Result<bool, AllocError> {
+    let answer = answered(alloc, &REPLAY, record, &[], &[])?;
+    Ok(answer.status == row.status && answer.text.as_slice() == report_of(row.rest).as_bytes())
+}
+
+/// Whether the run of a row's job answers as the row says, and what it writes is replayed, with its
+/// report and without.
 fn holds(alloc: Global, row: &Row) -> Result<bool, AllocError> {
     let answer = answered(alloc, &RUN, row.job.as_bytes(), &[], &[])?;
     let text = whole(alloc, row)?;
-    Ok(answer.status == row.status && answer.text.as_slice() == text.as_slice())
+    let record = text
+        .get(..text.len() - report_of(row.rest).len())
+        .unwrap_or(b"");
+    Ok(
+        answer.status == row.status
+            && answer.text.as_slice() == text.as_slice()
+            && replays(alloc, &text, row)?
+            && replays(alloc, record, row)?,
+    )
 }
 
 #[test]

@@ -1,0 +1,17 @@
+pub mod Readings
+pub mod Spelling
+pub mod Lines
+pub mod Bits
+pub mod Operands
+pub mod Pieces
+pub mod Heads
+pub mod Tails
+pub mod Forms
+pub mod Lengths
+pub mod Heading
+pub mod Runs
+pub mod Placing
+pub mod Words
+pub mod Bytes
+pub mod BackLemmas
+pub mod Law

@@ -1,0 +1,199 @@
+//! The command `replay`: records, and the report or the refusal that is written.
+use crate::asking::{REPLAY, answered};
+use crate::jobs::{ASSEMBLED_OUTPUT, FIRST_OUTPUT};
+use qpu_tool::Status;
+use std::alloc::{AllocError, Global};
+use std::test::Fail;
+
+/// A record of one processor and four words, up to its schedule.
+const HEAD: &[u8] =
+    b"qpurecord 1\njob 101\nqpujob 1\nmemory 16\nlimit 100\nprogram a\nldi r0, 0x12345678\nnop; thrend\nnop\nnop\nendprogram\nstart 0 a 0\nschedule\n";
+
+/// The record of two processors that end, up to its schedule.
+const TWO: &[u8] =
+    b"qpurecord 1\njob 94\nqpujob 1\nmemory 16\nlimit 100\nprogram a\nnop; thrend\nnop\nnop\nendprogram\nstart 0 a 0\nstart 1 a 0\nschedule\n";
+
+/// What is written of its machine.
+const BOTH_ENDED: &[u8] =
+    b"report\nqpu 0 ended executed 3 interrupts 0\nqpu 1 ended executed 3 interrupts 0\nending done\nendreport\n";
+
+/// The lines of the report of the first record.
+const REPORT: &[u8] =
+    b"report\nqpu 0 ended executed 4 interrupts 0\nr0 12345678 12345678 12345678 12345678 12345678 12345678 12345678 12345678 12345678 12345678 12345678 12345678 12345678 12345678 12345678 12345678\nending done\nendreport\n";
+
+/// Two texts, one behind the other.
+fn behind(alloc: Global, head: &[u8], tail: &[u8]) -> Result<Vec<u8>, AllocError> {
+    let mut text = Vec::from_slice(alloc, head)?;
+    text.extend_from_slice(tail)?;
+    Ok(text)
+}
+
+#[test]
+fn what_a_run_writes_is_replayed(rt: HostRuntime) -> Result<(), Fail> {
+    let alloc = rt.alloc();
+    for output in [ASSEMBLED_OUTPUT, FIRST_OUTPUT] {
+        let answer = answered(alloc, &REPLAY, output, &[], &[])?;
+        assert!(rt; answer.status == Status::Done);
+        assert!(rt; answer.text.as_slice() == REPORT);
+    }
+    Ok(())
+}
+
+#[test]
+fn items_may_stand_in_any_permitted_order(rt: HostRuntime) -> Result<(), Fail> {
+    let alloc = rt.alloc();
+    let rows: [&[u8]; 4] = [
+        b"q 0 3\nq 1 3\nendrecord\n",
+        b"q 1 3\nq 0 3\nendrecord\n",
+        b"q 0 1\nq 1 1\nq 0 2\nq 1 2\nendrecord\n",
+        b"q 0 1\nq 0 1\nq 0 1\nq 1 1\nq 1 2\nendrecord",
+    ];
+    for items in rows {
+        let record = behind(alloc, TWO, items)?;
+        let answer = answered(alloc, &REPLAY, &record, &[], &[])?;
+        assert!(rt; answer.status == Status::Done);
+        assert!(rt; answer.text.as_slice() == BOTH_ENDED);
+    }
+    Ok(())
+}
+
+#[test]
+fn a_step_that_is_not_enabled_is_told(rt: HostRuntime) -> Result<(), Fail> {
+    let alloc = rt.alloc();
+    let rows: [(&[u8], &[u8]); 7] = [
+        (b"endrecord\n", b"refused record not finished\n"),
+        (b"q 0 3\nendrecord\n", b"refused record not finished\n"),
+        (
+            b"q 0 4\nq 0 4\nendrecord\n",
+            b"refused record item 1 step 5\n",
+        ),
+        (b"q 1 1\nendrecord\n", b"refused record item 1 step 1\n"),
+        (
+            b"q 0 2\nl 0 1\nq 0 2\nendrecord\n",
+            b"refused record item 2 step 1\n",
+        ),
+        (
+            b"q 0 4\nt 0 1 3\nendrecord\n",
+            b"refused record item 2 step 1\n",
+        ),
+        (
+            b"q 0 1000000\nq 0 1000000\nendrecord\n",
+            b"refused record item 1 step 5\n",
+        ),
+    ];
+    for (items, line) in rows {
+        let record = behind(alloc, HEAD, items)?;
+        let answer = answered(alloc, &REPLAY, &record, &[], &[])?;
+        assert!(rt; answer.status == Status::RecordRefused);
+        assert!(rt; answer.text.as_slice() == line);
+    }
+    Ok(())
+}
+
+#[test]
+fn another_report_is_told_by_its_first_line(rt: HostRuntime) -> Result<(), Fail> {
+    let alloc = rt.alloc();
+    let rows: [(&[u8], &[u8]); 6] = [
+        (b"report\n", b"refused record report at line 17\n"),
+        (b"\n", b"refused record report at line 16\n"),
+        (b"report\nqpu 0 end", b"refused record report at line 17\n"),
+        (
+            b"report\nqpu 0 ended executed 4 interrupts 0\nr0 12345678 12345678 12345678 12345678 12345678 12345678 12345678 12345678 12345678 12345678 12345678 12345678 12345678 12345678 12345678 12345679\nending done\nendreport\n",
+            b"refused record report at line 18\n",
+        ),
+        (
+            b"report\nqpu 0 ended executed 4 interrupts 0\nr0 12345678 12345678 12345678 12345678 12345678 12345678 12345678 12345678 12345678 12345678 12345678 12345678 12345678 12345678 12345678 12345678\nending done\nendreport",
+            b"refused record report at line 20\n",
+        ),
+        (
+            b"report\nqpu 0 ended executed 4 interrupts 0\nr0 12345678 12345678 12345678 12345678 12345678 12345678 12345678 12345678 12345678 12345678 12345678 12345678 12345678 12345678 12345678 12345678\nending done\nendreport\n\n",
+            b"refused record report at line 21\n",
+        ),
+    ];
+    let record = behind(alloc, HEAD, b"q 0 4\nendrecord\n")?;
+    for (rest, line) in rows {
+        let text = behind(alloc, &record, rest)?;
+        let answer = answered(alloc, &REPLAY, &text, &[], &[])?;
+        assert!(rt; answer.status == Status::RecordRefused);
+        assert!(rt; answer.text.as_slice() == line);
+    }
+    Ok(())
+}
+
+#[test]
+fn a_text_that_is_no_record_is_told_by_its_line(rt: HostRuntime) -> Result<(), Fail> {
+    let alloc = rt.alloc();
+    let rows: [(&[u8], &[u8]); 9] = [
+        (b"", b"refused record line 1\n"),
+        (b"qpurecord 2\n", b"refused record version\n"),
+        (b"qpurecord 1", b"refused record line 1\n"),
+        (b"qpurecord 1\n", b"refused record line 2\n"),
+        (b"qpurecord 1\njob 09\n", b"refused record line 2\n"),
+        (b"qpurecord 1\njob 5\nabc\n", b"refused record line 2\n"),
+        (
+            b"qpurecord 1\njob 3\nabcschedule\n",
+            b"refused record line 3\n",
+        ),
+        (
+            b"qpurecord 1\njob 3\nabc\nschedule\nq 12 1\nendrecord\n",
+            b"refused record number at line 5\n",
+        ),
+        (
+            b"qpurecord 1\njob 3\nabc\nschedule\nq 0 04\nendrecord\n",
+            b"refused record line 5\n",
+        ),
+    ];
+    for (text, line) in rows {
+        let answer = answered(alloc, &REPLAY, text, &[], &[])?;
+        assert!(rt; answer.status == Status::RecordRefused);
+        assert!(rt; answer.text.as_slice() == line);
+    }
+    Ok(())
+}
+
+#[test]
+fn the_job_of_a_record_is_refused_as_a_job(rt: HostRuntime) -> Result<(), Fail> {
+    let alloc = rt.alloc();
+    let rows: [(&[u8], Status, &[u8]); 4] = [
+        (
+            b"qpurecord 1\njob 3\nabc\nschedule\nendrecord\n",
+            Status::JobRefused,
+            b"refused job Line at line 1\n",
+        ),
+        (
+            b"qpurecord 1\njob 51\nqpujob 1\nmemory 2\nlimit 9\nprogram a\nfoo\nendprogram\nschedule\nendrecord\n",
+            Status::AsmRefused,
+            b"refused asm UnknownOp at line 5 column 1\n",
+        ),
+        (
+            b"qpurecord 1\njob 51\nqpujob 1\nmemory 2\nlimit 9\nprogram a\nnop\nendprogram\nschedule\nendrecord\n",
+            Status::HazardRefused,
+            b"refused hazard H10 in a at 0 after 0\n",
+        ),
+        (
+            b"qpurecord 1\njob 51\nqpujob 1\nmemory 2\nlimit 9\nprogram a\nnop\nendprogram\nschedule\nq 0\n",
+            Status::RecordRefused,
+            b"refused record line 10\n",
+        ),
+    ];
+    for (text, status, line) in rows {
+        let answer = answered(alloc, &REPLAY, text, &[], &[])?;
+        assert!(rt; answer.status == status);
+        assert!(rt; answer.text.as_slice() == line);
+    }
+    Ok(())
+}
+
+#[test]
+fn faults_of_the_streams_are_told(rt: HostRuntime) -> Result<(), Fail> {
+    let alloc = rt.alloc();
+    let high = answered(alloc, &REPLAY, b"qpurecord 1\n\x80", &[], &[])?;
+    assert!(rt; high.status == Status::NotAscii);
+    assert!(rt; high.text.as_slice() == b"not ascii at 12\n".as_slice());
+    let broken = answered(alloc, &REPLAY, ASSEMBLED_OUTPUT, &[0], &[])?;
+    assert!(rt; broken.status == Status::ReadFault);
+    let cut = answered(alloc, &REPLAY, ASSEMBLED_OUTPUT, &[], &[0])?;
+    assert!(rt; cut.status == Status::WriteFault);
+    assert!(rt; cut.text.is_empty());
+    Ok(())
+}
