@@ -16,6 +16,7 @@ mod holding;
 mod judging;
 mod misspelling;
 mod refusing;
+mod refusing_records;
 mod replaying;
 mod running;
 mod status;

@@ -1,7 +1,5 @@
 //! The answer to the text of a record.
-ghost use Rattle.std.specs.Prelude.{◌≡◌, ◌≢◌, ◌≤◌, ◌⊎◌, [], ◌∷◌, codes, decimal, Some, None, Ok, IfOk, IfSome, IsNone, IsTrue, IsFalse, length, position, string_bytes};
-ghost use Rattle.qpu_io.specs.Output.{Prints};
-ghost use Rattle.qpu_io.specs.Text.{joined};
+ghost use Rattle.std.specs.Prelude.{◌≡◌, ◌≢◌, ◌≤◌, ◌⊎◌, [], Some, None, Ok, IfOk, IfSome, IsNone, IsTrue, IsFalse, length, position, string_bytes};
 ghost use Rattle.qpu_machine.specs.Ending.{IsFinal, ending_of};
 ghost use Rattle.qpu_job.specs.Plan.{Plan, plan_of};
 ghost use Rattle.qpu_job.specs.ReadJob.{IsReadJob};
@@ -13,108 +11,25 @@ ghost use Rattle.qpu_replay.specs.Replay.{IsComplete};
 ghost use Rattle.qpu_machine.specs.Machine.{MachineState};
 ghost use Rattle.qpu_tool.specs.declared.words.Command.TheVariants.{Replay};
 ghost use Rattle.qpu_tool.specs.declared.command.TheConstants.{MOST_RECORD};
-ghost use Rattle.qpu_tool.specs.Refusals.{is_high, record_line, replay_line};
-ghost use Rattle.qpu_tool.specs.RecordAnswers.{record_refusal, replay_refusal, report_refusal, replay_answer, differing_line, OpensRecord};
+ghost use Rattle.qpu_tool.specs.Refusals.{is_high};
+ghost use Rattle.qpu_tool.specs.RecordAnswers.{replay_answer, differing_line, OpensRecord};
 ghost use Rattle.qpu_tool.specs.Answer.{Gives};
 ghost use Rattle.qpu_tool.specs.Answers.{Judged};
 
 use crate::comparing::differing_line;
 use crate::holding::HoldingSink;
 use crate::refusing::say_fault;
+use crate::refusing_records::{say_other_report, say_record_fault, say_replay_fault};
 use crate::running::{is_want, status_for};
 use crate::status::Status;
-use qpu_io::{Piece, Sink, SinkFailed, put_all, write_all_of};
+use qpu_io::{Sink, write_all_of};
 use qpu_job::{Job, make_machine, read_job};
 use qpu_machine::{Ending, Machine};
 use qpu_record::{RecordFault, RecordParts, read_record};
-use qpu_replay::{ReplayFault, replay};
+use qpu_replay::replay;
 use qpu_report::write_report;
 use qpu_word::NoMemory;
 use std::alloc::Global;
-
-/// Writes the line of a record's fault; of want of memory there is none.
-#[tactic(auto, using(qpu_io::proofs::Outputs::appended_none))]
-fn put_record_line<K: Sink>(fault: RecordFault, sink: &mut K) -> Result<(), SinkFailed>
-    ensures { Prints (K.shown sink.old) (K.shown sink.new) (record_line fault) result }
-{
-    match fault {
-        RecordFault::Version => write_all_of(sink, b"refused record version\n"),
-        RecordFault::Line(line) => put_numbered(b"refused record line ", line, sink),
-        RecordFault::Number(line) => put_numbered(b"refused record number at line ", line, sink),
-        RecordFault::Memory => Ok(()),
-    }
-}
-
-/// Writes a line of words and a number.
-fn put_numbered<K: Sink>(words: &[u8], number: u32, sink: &mut K) -> Result<(), SinkFailed>
-    ensures { Prints (K.shown sink.old) (K.shown sink.new) (joined (words.now ∷ decimal number ∷ codes "\n" ∷ [])) result }
-{
-    let pieces = [
-        Piece::Text(words),
-        Piece::Decimal(u64::from(number)),
-        Piece::Text(b"\n"),
-    ];
-    put_all(&pieces, sink)
-}
-
-/// Says why a text is no record.
-fn say_record_fault<K: Sink>(fault: RecordFault, sink: &mut K) -> Status
-    ensures { Gives (record_refusal fault) (K.shown sink.old) (K.shown sink.new) result }
-{
-    match put_record_line(fault, sink) {
-        Ok(()) => Status::RecordRefused,
-        Err(_) => Status::WriteFault,
-    }
-}
-
-/// Writes the line of a step that isn't enabled.
-fn put_step_line<K: Sink>(item: u64, step: u64, sink: &mut K) -> Result<(), SinkFailed>
-    ensures { Prints (K.shown sink.old) (K.shown sink.new) (replay_line (ReplayFault.NotEnabled item step)) result }
-{
-    let pieces = [
-        Piece::Text(b"refused record item "),
-        Piece::Decimal(item),
-        Piece::Text(b" step "),
-        Piece::Decimal(step),
-        Piece::Text(b"\n"),
-    ];
-    put_all(&pieces, sink)
-}
-
-/// Writes the line of a schedule that isn't a complete permitted one.
-fn put_replay_line<K: Sink>(fault: ReplayFault, sink: &mut K) -> Result<(), SinkFailed>
-    ensures { Prints (K.shown sink.old) (K.shown sink.new) (replay_line fault) result }
-{
-    match fault {
-        ReplayFault::NotEnabled { item, step } => put_step_line(item, step, sink),
-        ReplayFault::NotFinished => write_all_of(sink, b"refused record not finished\n"),
-    }
-}
-
-/// Says why a schedule isn't a complete permitted one.
-fn say_replay_fault<K: Sink>(fault: ReplayFault, sink: &mut K) -> Status
-    ensures { Gives (replay_refusal fault) (K.shown sink.old) (K.shown sink.new) result }
-{
-    match put_replay_line(fault, sink) {
-        Ok(()) => Status::RecordRefused,
-        Err(_) => Status::WriteFault,
-    }
-}
-
-/// Says in which line a report isn't the machine's.
-fn say_other_report<K: Sink>(line: u64, sink: &mut K) -> Status
-    ensures { Gives (report_refusal line) (K.shown sink.old) (K.shown sink.new) result }
-{
-    let pieces = [
-        Piece::Text(b"refused record report at line "),
-        Piece::Decimal(line),
-        Piece::Text(b"\n"),
-    ];
-    match put_all(&pieces, sink) {
-        Ok(()) => Status::RecordRefused,
-        Err(_) => Status::WriteFault,
-    }
-}
 
 /// The report of a final machine, in memory.
 fn report_of(alloc: Global, machine: &Machine) -> Result<HoldingSink, NoMemory>
