@@ -10,5 +10,5 @@ returns-else-is_want_of g c =
     let none = c.is_want_of.ensures.no c.if-is_want_of.false in
     answered (record_refusal c.in-Err.fault)
     (low (record_refusal c.in-Err.fault) c.requires.ascii
-    (no_record c.in-Err.fault (record_fails_is c.in-Err.fault (record_of c.args.text.now) c.in-Err.ensures none) none))
+    (no_record c.in-Err.fault (record_fails_is c.in-Err.fault (record_of c.args.text.now) c.in-Err.ensures.answer none) none))
     c.say_record_fault.ensures
