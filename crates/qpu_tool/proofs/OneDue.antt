@@ -1,11 +1,14 @@
 -- Of one command and one input one answer at most is due.
-use Rattle.std.proofs.Common.{◌≡◌, ℕ, List, Option, Some, None, ap, sym, ◌∙◌}
+use Rattle.std.proofs.Common.{◌≡◌, ◌≤◌, inl, inr, ℕ, List, length, Option, Some, None, ap, sym, ◌∙◌, arith}
 use Rattle.std.specs.Prelude.{position}
+use Rattle.qpu_io.specs.Output.{Output, appended}
+use Rattle.qpu_tool.specs.declared.status.Status.{Status}
 use Rattle.qpu_tool.specs.declared.words.Command.{Command}
 use Rattle.qpu_tool.specs.declared.words.Command.TheVariants.{Run, Assemble, Disassemble, Check, Replay}
+use Rattle.qpu_tool.specs.Commands.{limit_of}
 use Rattle.qpu_tool.specs.Refusals.{is_high}
 use Rattle.qpu_tool.specs.Answer.{Answer, not_ascii}
-use Rattle.qpu_tool.specs.Answers.{AnswerBy, AnswerTo, high, low}
+use Rattle.qpu_tool.specs.Answers.{AnswerBy, AnswerTo, high, low, AnswersTo, ComesTo}
 use Rattle.qpu_tool.proofs.OneDueText.{one_asm, one_dis, one_checked}
 use Rattle.qpu_tool.proofs.OneDueJob.{one_ran}
 use Rattle.qpu_tool.proofs.OneDueRecord.{one_recorded}
@@ -28,3 +31,13 @@ one_due command text a b (high i is) (high j is') = ap (λ (n : ℕ). not_ascii 
 one_due command text a b (high i is) (low _ none due) = absurd (no_place (position is_high text) i is none)
 one_due command text a b (low _ none due) (high i is) = absurd (no_place (position is_high text) i is none)
 one_due command text a b (low _ none due) (low _ none' due') = one_by command text a b due due'
+
+-- so each that is due is the one that was given
+
+pub given_alone : (command : Command) (text : List ℕ) (answer : Answer) (held held' : Output) (status : Status) → length text ≤ limit_of command
+    → AnswerTo command text answer → AnswersTo command text held held' status → ComesTo answer held held' status
+given_alone command text answer held held' status short due (inl want) = inl want
+given_alone command text answer held held' status short due (inr (inl long)) = absurd (omega (arith, short, long.1))
+given_alone command text answer held held' status short due (inr (inr all)) =
+    let same : all.1.answer ≡ answer = one_due command text all.1.answer answer all.1.due due in
+    inr (all.1.status_is ∙ ap (λ (a : Answer). a.status) same, all.1.printed ∙ ap (λ (a : Answer). appended held a.text) same)
