@@ -40,7 +40,7 @@ due plan (fault.Place line) fails apart = absurd fails
 no_fault : {X : Type 0} (o : Option X) (x : X) → o ≡ None → o ≡ Some x → ⊥
 no_fault o x p q = absurd (let f : None ≡ Some x = sym p ∙ q in cc)
 
-outside_no_more : (code : List ℕ) (at : ℕ) (f : WordFault) → AllInProfile code → IsFirstOutside code at f → ⊥
+pub outside_no_more : (code : List ℕ) (at : ℕ) (f : WordFault) → AllInProfile code → IsFirstOutside code at f → ⊥
 outside_no_more code at f inside outside = no_fault _ f (inside at outside.there) outside.outside
 
 never_checked : (codes : List (List ℕ)) (program : ℕ) (why : CheckFault) → All AllInProfile codes → All NoneRefusable codes → IsChecked codes program why → ⊥
@@ -94,7 +94,7 @@ same_break x y p q = both (at p q) (rule p q) (before p q)
 no_hazard : (code : List ℕ) (h : Hazard) → NoneRefusable code → IsFirst code h → ⊥
 no_hazard code h none first = none h first.refusable
 
-same_hazard : (code : List ℕ) (x y : Hazard) → IsFirst code x → IsFirst code y → x ≡ y
+pub same_hazard : (code : List ℕ) (x y : Hazard) → IsFirst code x → IsFirst code y → x ≡ y
 same_hazard code x y p q = same_break x y (p.least y q.refusable) (q.least x p.refusable)
 
 same_some : {X : Type 0} (o : Option X) (x y : X) → o ≡ Some x → o ≡ Some y → x ≡ y
@@ -111,7 +111,7 @@ outside_at code a b f g p q = by_order (cases_order a b)
 outside_why : (code : List ℕ) (a : ℕ) (f g : WordFault) → IsFirstOutside code a f → IsFirstOutside code a g → f ≡ g
 outside_why code a f g p q = same_some _ f g p.outside q.outside
 
-same_outside : (code : List ℕ) (a b : ℕ) (f g : WordFault) → IsFirstOutside code a f → IsFirstOutside code b g → check.Word a f ≡ check.Word b g
+pub same_outside : (code : List ℕ) (a b : ℕ) (f g : WordFault) → IsFirstOutside code a f → IsFirstOutside code b g → check.Word a f ≡ check.Word b g
 same_outside code a b f g p q =
     let e : a ≡ b = outside_at code a b f g p q in
     ap (λ (n : ℕ). check.Word n f) e

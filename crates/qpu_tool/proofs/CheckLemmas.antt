@@ -60,7 +60,7 @@ accepted_told text answer held held' ascii (accepted words due inside clean) e a
 no_fault : (o : Option WordFault) (e : WordFault) → o ≡ None → o ≡ Some e → ⊥
 no_fault o e none is = absurd (let f : None ≡ Some e = sym none ∙ is in cc)
 
-not_outside : (words : List ℕ) (fault : CheckFault) → AllInProfile words → NoneRefusable words → IsCheckFault words fault → fault ≢ check.Memory → ⊥
+pub not_outside : (words : List ℕ) (fault : CheckFault) → AllInProfile words → NoneRefusable words → IsCheckFault words fault → fault ≢ check.Memory → ⊥
 not_outside words (check.Word at fault) inside clean is none = no_fault _ fault (inside at is.there) is.outside
 not_outside words (check.Hazard rule at before) inside clean is none = clean _ is.1.refusable
 not_outside words check.Memory inside clean is none = none refl

@@ -1,7 +1,6 @@
 -- What follows of the refusal of a job.
-use Rattle.std.proofs.Common.{◌≡◌, ◌≢◌, ℕ, List, None, Result, Ok, Err, refl, sym, subst, ◌∙◌}
+use Rattle.std.proofs.Common.{◌≡◌, ◌≢◌, ℕ, List, Result, Ok, Err, refl, sym, subst, ◌∙◌}
 use Rattle.qpu_io.specs.Output.{Output, appended}
-use Rattle.qpu_token.specs.declared.fault.AsmFault.{AsmFault}
 use Rattle.qpu_job.specs.declared.fault.JobFault.{JobFault}
 use Rattle.qpu_job.specs.declared.fault.JobFault.TheVariants as fault
 use Rattle.qpu_job.specs.Plan.{Plan}
@@ -9,7 +8,7 @@ use Rattle.qpu_job.specs.Reading.{job_of, IsReadFault}
 use Rattle.qpu_job.specs.Opening.{AreClean, IsMakeFault}
 use Rattle.qpu_job.proofs.OneMachineLaw.{clean_jobs}
 use Rattle.qpu_tool.specs.declared.status.Status.{Status}
-use Rattle.qpu_tool.specs.declared.status.Status.TheVariants.{Done, Usage, AsmRefused, JobRefused, HazardRefused, ReadFault, WriteFault, NoMemory, Stuck, RanOut, Faulted, RecordRefused, TooLong, NotAscii}
+use Rattle.qpu_tool.specs.declared.status.Status.TheVariants.{AsmRefused, JobRefused, HazardRefused}
 use Rattle.qpu_tool.specs.Refusals.{names_of, fault_line, fault_status}
 use Rattle.qpu_tool.specs.Answer.{Answer}
 use Rattle.qpu_tool.specs.RunAnswers.{JobRefusal, no_job, no_machine, IsRefusedJob, TellsProgram, IsRefusedProgram}

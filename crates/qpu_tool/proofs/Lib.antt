@@ -11,3 +11,7 @@ pub mod RecordLemmas
 pub mod PrintedLemmas
 pub mod StatusLemmas
 pub mod AnswerLemmas
+pub mod OneDueText
+pub mod OneDueJob
+pub mod OneDueRecord
+pub mod OneDue

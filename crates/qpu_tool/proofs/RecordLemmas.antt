@@ -17,7 +17,7 @@ use Rattle.qpu_record.specs.declared.fault.RecordFault.TheVariants as record_fau
 use Rattle.qpu_record.specs.Reading.{Parts, Fails, record_of}
 use Rattle.qpu_report.specs.Report.{report_text}
 use Rattle.qpu_replay.specs.declared.fault.ReplayFault.{ReplayFault}
-use Rattle.qpu_replay.specs.Replay.{IsComplete, IsFault, Replays}
+use Rattle.qpu_replay.specs.Replay.{IsComplete, IsFault}
 use Rattle.qpu_replay.proofs.AnswerLemmas.{one_answer}
 use Rattle.qpu_tool.specs.declared.status.Status.{Status}
 use Rattle.qpu_tool.specs.declared.status.Status.TheVariants.{Done, Usage, AsmRefused, JobRefused, HazardRefused, ReadFault, WriteFault, NoMemory, Stuck, RanOut, Faulted, RecordRefused, TooLong, NotAscii}

@@ -193,3 +193,7 @@ AnswersTo command text old new status =
     (status ≡ NoMemory)
     ⊎ (((status ≡ TooLong) × (limit_of command < length text))
     ⊎ ((length text ≤ limit_of command) × Answered command text old new status))
+
+-- an answer was given whole, or memory was wanting
+abbrev pub ComesTo : Answer → Output → Output → Status → Type 0
+ComesTo answer old new status = (status ≡ NoMemory) ⊎ ((status ≡ answer.status) × (new ≡ appended old answer.text))

@@ -1,7 +1,6 @@
 -- The answers to the text of a record. This project's own.
 use Rattle.std.specs.Prelude.{◌≡◌, ◌≢◌, ◌⊎◌, ℕ, ◌+◌, ◌==◌, List, [], ◌∷◌, Option, Some, None, Ok, Err, if◌then◌else◌}
 use Rattle.qpu_io.specs.Output.{Output, appended}
-use Rattle.qpu_machine.specs.declared.actor.Actor.{Actor}
 use Rattle.qpu_machine.specs.Machine.{MachineState}
 use Rattle.qpu_machine.specs.Ending.{ending_of}
 use Rattle.qpu_job.specs.Plan.{Plan}

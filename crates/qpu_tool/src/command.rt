@@ -14,9 +14,9 @@ ghost use Rattle.qpu_tool.specs.declared.words.Command.{Command};
 ghost use Rattle.qpu_tool.specs.declared.words.Command.TheVariants.{Run, Assemble, Disassemble, Check, Replay};
 ghost use Rattle.qpu_tool.specs.Commands.{IsCommand, IsNoCommand, limit_of};
 ghost use Rattle.qpu_tool.specs.Refusals.{is_high};
-ghost use Rattle.qpu_tool.specs.Answer.{Gives, usage, read_fault, too_long};
+ghost use Rattle.qpu_tool.specs.Answer.{Answer, Gives, usage, read_fault, too_long};
 ghost use Rattle.qpu_tool.specs.RunAnswers.{IsOfRun, PrintsRun, IsAccepted, RunsIt, CanRun};
-ghost use Rattle.qpu_tool.specs.Answers.{IsOfText, IsQuiet, NothingLeft, Answered, AnswersTo, RefusesText, RefusesJob, RefusesWords, RefusesRecord, PrintsWords, Assembles, PrintsLines, Disassembles, PrintsAccepted, Accepts, Outcome};
+ghost use Rattle.qpu_tool.specs.Answers.{AnswerTo, IsOfText, IsQuiet, NothingLeft, Answered, AnswersTo, ComesTo, RefusesText, RefusesJob, RefusesWords, RefusesRecord, PrintsWords, Assembles, PrintsLines, Disassembles, PrintsAccepted, Accepts, Outcome};
 
 use crate::judging::judge;
 use crate::status::Status;
@@ -110,7 +110,8 @@ pub fn plain<S: Source, K: Sink>(
     ensures nothing_left { IsOfText result → NothingLeft (S.shown source.new) }
     ensures no_memory { result ≡ Status.NoMemory → K.shown sink.new ≡ K.shown sink.old }
 
-    // Each answer to the bytes has its cause, and where no fault is counted one of them comes.
+    // Each answer to the bytes has its cause, and where no fault is counted one of them comes: the one
+    // that is due, since no other is.
     ensures too_long { (bytes : List ℕ) (command : Command) → IsCommand (map string_bytes words.now) command → (S.shown source.old).left ≡ Some bytes
         → result ≡ Status.TooLong → limit_of command < length bytes }
     ensures not_ascii { (bytes : List ℕ) → (S.shown source.old).left ≡ Some bytes → result ≡ Status.NotAscii → IsSome (position is_high bytes) }
@@ -119,6 +120,10 @@ pub fn plain<S: Source, K: Sink>(
     ensures complete { (bytes : List ℕ) (command : Command) → IsCommand (map string_bytes words.now) command → (S.shown source.old).left ≡ Some bytes
         → IsQuiet (S.shown source.old).faults (S.shown source.new).faults → IsQuiet (K.shown sink.old).faults (K.shown sink.new).faults
         → AnswersTo command bytes (K.shown sink.old) (K.shown sink.new) result }
+    ensures alone { (bytes : List ℕ) (command : Command) (answer : Answer) → IsCommand (map string_bytes words.now) command → (S.shown source.old).left ≡ Some bytes
+        → length bytes ≤ limit_of command → AnswerTo command bytes answer
+        → IsQuiet (S.shown source.old).faults (S.shown source.new).faults → IsQuiet (K.shown sink.old).faults (K.shown sink.new).faults
+        → ComesTo answer (K.shown sink.old) (K.shown sink.new) result }
 
     // Refusals of what is read: a line or a program of a job, the words of a program, a text.
     ensures job_refused { (bytes : List ℕ) (command : Command) → IsCommand (map string_bytes words.now) command → (S.shown source.old).left ≡ Some bytes

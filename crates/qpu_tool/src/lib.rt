@@ -14,6 +14,7 @@ mod comparing;
 mod disassembling;
 mod holding;
 mod judging;
+mod laws;
 mod misspelling;
 mod refusing;
 mod refusing_records;
@@ -23,4 +24,5 @@ mod status;
 mod words;
 
 pub use command::{MOST_INPUT, MOST_RECORD, plain};
+pub use laws::one_answer_is_due;
 pub use status::Status;

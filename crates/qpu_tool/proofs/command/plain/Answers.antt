@@ -5,6 +5,7 @@ use Rattle.qpu_tool.specs.Answers.{IsOfText}
 use Rattle.qpu_tool.proofs.AnswerLemmas.{came, usage_told, no_command, sink_told, source_told, write_fault_told, read_fault_told, nothing_left, memory_told, too_long_told, for_bytes, answered_told, due_for}
 use Rattle.qpu_tool.proofs.StatusLemmas.{not_ascii_is, job_refused_is, hazard_refused_is, run_is, runs_accepted, text_refused_is, words_are, assembles_it, lines_are, disassembles_it, accepted_are, checks_it, record_refused_is, report_is, text_by_run}
 use Rattle.qpu_tool.proofs.PrintedLemmas.{replays_it}
+use Rattle.qpu_tool.proofs.OneDue.{given_alone}
 use Rattle.qpu_tool.proofs.command.plain.Goals as goal
 
 pub returns : goal.returns
@@ -26,6 +27,8 @@ returns g c =
           let f = for_bytes _ _ _ _ _ _ bytes k (subst IsOfText (sym is) tt) left in not_ascii_is f.command bytes _ _ _ f.given is;
       answered = λ bytes command words left of. answered_told _ _ _ _ _ _ bytes command k of words left;
       complete = λ bytes command words left quiet_in quiet_out. due_for _ _ _ _ _ _ bytes command k words left quiet_in quiet_out;
+      alone = λ bytes command answer words left short due quiet_in quiet_out.
+          given_alone command bytes answer _ _ _ short due (due_for _ _ _ _ _ _ bytes command k words left quiet_in quiet_out);
       job_refused = λ bytes command words left is.
           job_refused_is command bytes _ _ _ (answered_told _ _ _ _ _ _ bytes command k (subst IsOfText (sym is) tt) words left) is;
       hazard_refused = λ bytes command words left is.

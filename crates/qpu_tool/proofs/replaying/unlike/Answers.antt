@@ -1,7 +1,6 @@
 -- A text that doesn't differ from the report is the report.
-use Rattle.std.proofs.Common.{◌≡◌, ◌⊎◌, inr, ℕ, List, [], Option, None, Some, sym, ◌∙◌}
+use Rattle.std.proofs.Common.{◌≡◌, inr, ℕ, Option, None, Some, sym, ◌∙◌}
 use Rattle.std.specs.Prelude.{IsNone}
-use Rattle.qpu_tool.specs.RecordAnswers.{differing_line}
 use Rattle.qpu_tool.proofs.DifferLemmas.{same_texts}
 use Rattle.qpu_tool.proofs.replaying.unlike.Goals as goal
 
