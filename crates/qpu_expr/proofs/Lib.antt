@@ -1,6 +1,8 @@
 pub mod TreeLaw
 pub mod ReadingLemmas
 pub mod OperandLemmas
+pub mod PieceLemmas
+pub mod HeadLemmas
 pub mod RoomLemmas
 pub mod RunLemmas
 pub mod TableLemmas

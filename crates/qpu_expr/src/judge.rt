@@ -7,7 +7,7 @@ ghost use Rattle.qpu_expr.specs.Deeds.{left_tokens, deed_by, fault_in, least_fau
 use crate::call::text_deed;
 use crate::deed::{Act, Deed, Findings, NO_FINDINGS, behind_word, left_deed, stray_deed};
 use crate::directive::{macro_deed, repeat_deed, set_deed};
-use crate::line::{Head, Line, Pair, behind_label, head_of, is_colon, label_of};
+use crate::line::{BodyLine, Head, Line, Pair, behind_label, head_of, is_colon, label_of};
 use crate::place::{Place, fault_at, place_of};
 use crate::state::{Change, State};
 use crate::stop::Stop;
@@ -31,7 +31,7 @@ fn deed_of(
     state: &State,
     deepest: bool,
     line: &Line,
-    behind: &[Line],
+    behind: &[BodyLine],
 ) -> Result<Deed, AllocError>
     ensures { IfOk result (λ deed. deed ≡ deed_by text.now state.now deepest line.now.end line.now.tokens (behind_label text.now line.now.tokens) behind.now (head_of text.now (behind_label text.now line.now.tokens))) }
 {
@@ -112,14 +112,17 @@ pub(crate) fn take_line(
     alloc: Global,
     text: &[u8],
     deepest: bool,
-    line: &Line,
-    behind: &[Line],
+    line: &BodyLine,
+    behind: &[BodyLine],
     state: &mut State,
 ) -> Result<Act, Stop>
     ensures { Led (line_does text.now deepest line.now behind.now state.old) state.new result }
 {
-    let deed = deed_of(alloc, text, state, deepest, line, behind)?;
-    do_deed(alloc, text, line, deed, state)
+    let Some(whole) = line.whole(alloc)? else {
+        return Err(Stop::Memory);
+    };
+    let deed = deed_of(alloc, text, state, deepest, &whole, behind)?;
+    do_deed(alloc, text, &whole, deed, state)
 }
 
 /// The faults of the line that closes a body.
@@ -145,11 +148,14 @@ fn closing_deed(line: &[Token]) -> Deed
 pub(crate) fn close_line(
     alloc: Global,
     text: &[u8],
-    line: &Line,
+    line: &BodyLine,
     state: &mut State,
 ) -> Result<Act, Stop>
     ensures { Led (closes text.now line.now state.old) state.new result }
 {
-    let deed = closing_deed(behind_label(text, &line.tokens));
-    do_deed(alloc, text, line, deed, state)
+    let Some(whole) = line.whole(alloc)? else {
+        return Err(Stop::Memory);
+    };
+    let deed = closing_deed(behind_label(text, &whole.tokens));
+    do_deed(alloc, text, &whole, deed, state)
 }

@@ -9,7 +9,9 @@
 //!
 //! What a plain line means isn't told here, and its mnemonics aren't known: all pieces of a part that
 //! look like an expression are worked out, whatever the part begins with. The body of a macro is
-//! copied at each call, also lines of it that a repeat of no turns then leaves out.
+//! copied at each call, also lines of it that a repeat of no turns then leaves out; its arguments are
+//! shared by the copies, and put in only where a line is reached. A line with more than four times the
+//! tokens that a text may reach is answered with want of memory, and isn't judged.
 #![tactic(auto)]
 
 mod call;
@@ -25,6 +27,7 @@ mod line;
 mod macros;
 mod operand;
 mod operator;
+mod piece;
 mod place;
 mod register;
 mod setting;
