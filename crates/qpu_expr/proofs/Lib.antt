@@ -10,6 +10,7 @@ pub mod OnlyTreeLaw
 pub mod KeepLemmas
 pub mod DeedLemmas
 pub mod CountLemmas
+pub mod LongLemmas
 pub mod FewLemmas
 pub mod EndLemmas
 pub mod StageEndLemmas

@@ -61,3 +61,15 @@ front_step most pieces i piece out new more is so puts =
     ∙ ap (λ xs. take most xs)
     (flat_map_more (λ p. p) [] (take i pieces) piece
     ∙ ap joined (sym (take_more pieces i piece more ∙ ap (λ y. take i pieces ++ y ∷ []) (sym is))))))
+
+take_short : (n : ℕ) (tokens : List Token) → length (take n tokens) ≤ length tokens
+take_short zero tokens = omega arith
+take_short (suc n) [] = omega arith
+take_short (suc n) (x ∷ tokens) = let rest = take_short n tokens in omega (arith, rest)
+
+-- a line has as many tokens as are read of it, or more
+pub long_line : (tokens xs : List Token) (n few : ℕ) → tokens ≡ take n xs → few < length tokens → few < length xs
+long_line tokens xs n few front more =
+    let short = take_short n xs in
+    let same = ap length front in
+    omega (arith, short, same, more)

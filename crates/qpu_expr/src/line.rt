@@ -1,8 +1,9 @@
 //! The lines of a text, and what they begin with.
-ghost use Rattle.std.specs.Prelude.{◌≡◌, ◌≤◌, ◌++◌, ◌∷◌, [], take, IfOk, OnOk, IfSome, None, ◌+◌, ◌^◌, ◌<◌};
+ghost use Rattle.std.specs.Prelude.{◌≡◌, ◌≤◌, ◌++◌, ◌∷◌, [], length, take, MatchOption, IfOk, OnOk, IfSome, None, ◌+◌, ◌^◌, ◌<◌};
+ghost use Rattle.qpu_expr.specs.declared.limits.TheConstants.{MOST_TOKENS};
 ghost use Rattle.qpu_expr.specs.Lines.{column_behind, moved_to, Lining, no_line, lined, lines_of, is_colon, label_of, behind_label, word_head, directive, head_of, nesting_of, nested, body_length};
 
-use crate::limits::MOST_HELD;
+use crate::limits::{MOST_HELD, MOST_TOKENS};
 use crate::operand::{is_dot, is_name};
 use crate::piece::{Piece, read_front, share_all};
 use crate::register::is_text;
@@ -69,9 +70,21 @@ impl BodyLine {
         })
     }
 
+    /// The line with its first tokens, one more than a text may reach.
+    pub(crate) fn first(&self, alloc: Global) -> Result<Line, AllocError>
+        ensures { IfOk result (λ first. first ≡ record { tokens = take (MOST_TOKENS + 1) self.now.tokens; end = self.now.end }) }
+    {
+        let mut tokens = Vec::new(alloc);
+        self.read_front(MOST_TOKENS + 1, &mut tokens)?;
+        Ok(Line {
+            tokens,
+            end: self.end,
+        })
+    }
+
     /// The line with its tokens; none where they are more than are held at once.
     pub(crate) fn whole(&self, alloc: Global) -> Result<Option<Line>, AllocError>
-        ensures { IfOk result (λ whole. IfSome whole (λ line. line ≡ self.now)) }
+        ensures { IfOk result (λ whole. MatchOption whole (MOST_TOKENS < length self.now.tokens) (λ line. line ≡ self.now)) }
     {
         let mut tokens = Vec::new(alloc);
         self.read_front(MOST_HELD + 1, &mut tokens)?;

@@ -461,6 +461,14 @@ fn arguments_are_counted_where_their_line_is_reached(rt: HostRuntime) -> Result<
     };
     let text = multiplied(rt.alloc(), ".macro m, p\n", 1000, "\n.endm\nm ", 1100)?;
     assert!(rt; fault(rt.alloc(), text.as_str())? == long(2, 1905));
+    let text = multiplied(
+        rt.alloc(),
+        ".macro a, q\n.endm\n.macro m, p\n",
+        3000,
+        "\n.endm\nm ",
+        3000,
+    )?;
+    assert!(rt; fault(rt.alloc(), text.as_str())? == long(4, 697));
     let text = nested_arguments(rt.alloc())?;
     assert!(rt; fault(rt.alloc(), text.as_str())? == long(5, 8));
     let text = multiplied(
