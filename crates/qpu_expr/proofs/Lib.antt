@@ -1,6 +1,8 @@
 pub mod TreeLaw
 pub mod ReadingLemmas
 pub mod OperandLemmas
+pub mod PieceLemmas
+pub mod HeadLemmas
 pub mod RoomLemmas
 pub mod RunLemmas
 pub mod TableLemmas
@@ -8,6 +10,7 @@ pub mod OnlyTreeLaw
 pub mod KeepLemmas
 pub mod DeedLemmas
 pub mod CountLemmas
+pub mod LongLemmas
 pub mod FewLemmas
 pub mod EndLemmas
 pub mod StageEndLemmas

@@ -10,6 +10,7 @@ pub mod LineTokens
 pub mod Lines
 pub mod MacroTokens
 pub mod Macros
+pub mod Pieces
 pub mod StageParts
 pub mod Stage
 pub mod Room

@@ -81,7 +81,7 @@ fn instruction_deed(
 }
 
 /// The macro that a line calls.
-fn called<'a>(text: &[u8], macros: &'a Table<Macro>, line: &[Token]) -> Option<&'a Macro>
+pub(crate) fn called<'a>(text: &[u8], macros: &'a Table<Macro>, line: &[Token]) -> Option<&'a Macro>
     ensures { option_copied result ≡ called text.now macros.now line.now }
 {
     match line {

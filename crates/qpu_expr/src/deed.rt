@@ -4,7 +4,7 @@ ghost use Rattle.qpu_expr.specs.Findings.{place_in, when, left_deed};
 ghost use Rattle.qpu_expr.specs.Directives.{stray_deed};
 
 use crate::expanded::PlainLine;
-use crate::line::Line;
+use crate::line::BodyLine;
 use crate::place::{Place, place_of};
 use crate::state::Change;
 use qpu_token::Token;
@@ -15,7 +15,7 @@ use std::marker::Model;
 #[derive(Drop)]
 pub(crate) struct Body {
     /// The lines.
-    pub(crate) lines: Vec<Line>,
+    pub(crate) lines: Vec<BodyLine>,
 }
 
 impl Model for Body {

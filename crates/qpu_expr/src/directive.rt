@@ -6,7 +6,7 @@ ghost use Rattle.qpu_expr.specs.Directives.{set_to, set_deed, repeat_by, repeat_
 use crate::deed::{Act, Deed, Findings, NO_FINDINGS, behind_word, left_deed, place_in, when};
 use crate::expression::Outcome;
 use crate::limits::MOST_TURNS;
-use crate::line::{Line, Pair, body_length};
+use crate::line::{BodyLine, Pair, body_length};
 use crate::macros::{Macro, is_comma, names_of, repeated};
 use crate::operand::is_name;
 use crate::place::{Place, place_of};
@@ -142,13 +142,13 @@ pub(crate) fn repeat_deed(
     deepest: bool,
     end: Token,
     line: &[Token],
-    behind: &[Line],
+    behind: &[BodyLine],
 ) -> Result<Deed, AllocError>
     ensures { IfOk result (λ deed. deed ≡ repeat_deed text.now sets.now deepest end line.now behind.now) }
 {
     let count = behind_word(line);
     let e = read_expression(alloc, text, sets, count)?;
-    let body = body_length(Pair::Repeat, text, behind);
+    let body = body_length(alloc, Pair::Repeat, text, behind)?;
     Ok(repeat_by(deepest, place_in(end, line), place_in(end, count), e, body))
 }
 
@@ -165,37 +165,26 @@ fn names_twice(text: &[u8], macros: &Table<Macro>, names: &[Token]) -> Option<Pl
     }
 }
 
-/// A copy of a line.
-fn copy_line(alloc: Global, line: &Line) -> Result<Line, AllocError>
-    ensures { IfOk result (λ copy. copy ≡ line.now) }
-{
-    let tokens = Vec::from_slice(alloc, &line.tokens)?;
-    Ok(Line {
-        tokens,
-        end: line.end,
-    })
-}
-
 /// A copy of lines.
-fn copy_lines(alloc: Global, lines: &[Line]) -> Result<Vec<Line>, AllocError>
+fn copy_lines(alloc: Global, lines: &[BodyLine]) -> Result<Vec<BodyLine>, AllocError>
     ensures { IfOk result (λ copy. copy.items ≡ lines.now) }
 {
     let mut copy = Vec::new(alloc);
     for line in lines {
-        copy.push(copy_line(alloc, line)?)?;
+        copy.push(line.copy(alloc)?)?;
     }
     Ok(copy)
 }
 
 /// The first of lines, so many as there are.
-pub(crate) fn front(lines: &[Line], most: usize) -> &[Line]
+pub(crate) fn front(lines: &[BodyLine], most: usize) -> &[BodyLine]
     ensures { result.now ≡ take most lines.now }
 {
     &lines[..most.min(lines.len())]
 }
 
 /// The macro of a heading.
-fn defined(alloc: Global, names: &[Token], body: &[Line]) -> Result<Change, AllocError>
+fn defined(alloc: Global, names: &[Token], body: &[BodyLine]) -> Result<Change, AllocError>
     ensures { IfOk result (λ change. change ≡ defined names.now body.now) }
 {
     match names {
@@ -233,12 +222,12 @@ pub(crate) fn macro_deed(
     macros: &Table<Macro>,
     end: Token,
     line: &[Token],
-    behind: &[Line],
+    behind: &[BodyLine],
 ) -> Result<Deed, AllocError>
     ensures { IfOk result (λ deed. deed ≡ macro_deed text.now macros.now end line.now behind.now) }
 {
     let heading = names_of(alloc, text, behind_word(line))?;
-    let body = body_length(Pair::Macro, text, behind);
+    let body = body_length(alloc, Pair::Macro, text, behind)?;
     let change = defined(alloc, heading.names(), front(behind, body.unwrap_or(0)))?;
     let twice = names_twice(text, macros, heading.names());
     Ok(Deed {

@@ -8,7 +8,7 @@ ghost use Rattle.qpu_expr.specs.Nesting.{is_deepest, below};
 use crate::deed::Act;
 use crate::directive::front;
 use crate::judge::{close_line, take_line};
-use crate::line::Line;
+use crate::line::BodyLine;
 use crate::place::{Place, fault_at};
 use crate::state::State;
 use crate::stop::Stop;
@@ -23,7 +23,7 @@ fn is_deepest(depth: u32) -> bool
 }
 
 /// The lines behind a line that aren't done with it.
-fn behind_act<'a>(act: &Act, behind: &'a [Line]) -> &'a [Line]
+fn behind_act<'a>(act: &Act, behind: &'a [BodyLine]) -> &'a [BodyLine]
     ensures { result.now ≡ drop (taken act.now) behind.now }
 {
     match act {
@@ -33,7 +33,7 @@ fn behind_act<'a>(act: &Act, behind: &'a [Line]) -> &'a [Line]
 }
 
 /// The lines behind a body and the line that closes it.
-fn behind_body(lines: usize, behind: &[Line]) -> &[Line]
+fn behind_body(lines: usize, behind: &[BodyLine]) -> &[BodyLine]
     ensures { result.now ≡ drop (lines + 1) behind.now }
 {
     if lines < behind.len() {
@@ -48,7 +48,7 @@ fn close(
     alloc: Global,
     text: &[u8],
     lines: usize,
-    behind: &[Line],
+    behind: &[BodyLine],
     state: &mut State,
 ) -> Result<(), Stop>
     ensures { Leads (closed text.now (slice_get behind.now lines) state.old) state.new result }
@@ -78,7 +78,7 @@ fn count_turn(place: Place, state: &mut State) -> Result<(), Stop>
 fn run_below(
     alloc: Global,
     text: &[u8],
-    lines: &[Line],
+    lines: &[BodyLine],
     depth: u32,
     state: &mut State,
 ) -> Result<(), Stop>
@@ -95,7 +95,7 @@ fn run_below(
 fn repeat(
     alloc: Global,
     text: &[u8],
-    body: &[Line],
+    body: &[BodyLine],
     times: u32,
     place: Place,
     depth: u32,
@@ -116,7 +116,7 @@ fn perform(
     alloc: Global,
     text: &[u8],
     act: &Act,
-    behind: &[Line],
+    behind: &[BodyLine],
     depth: u32,
     state: &mut State,
 ) -> Result<(), Stop>
@@ -150,7 +150,7 @@ fn perform(
 pub(crate) fn run_lines(
     alloc: Global,
     text: &[u8],
-    lines: &[Line],
+    lines: &[BodyLine],
     depth: u32,
     state: &mut State,
 ) -> Result<(), Stop>

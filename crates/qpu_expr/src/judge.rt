@@ -1,13 +1,22 @@
 //! A line by itself: its fault, or what it does.
-ghost use Rattle.std.specs.Prelude.{◌≡◌, IfOk};
-ghost use Rattle.qpu_expr.specs.Leads.{Led};
-ghost use Rattle.qpu_expr.specs.Lines.{behind_label, head_of};
+ghost use Rattle.std.specs.Prelude.{◌≡◌, ◌<◌, List, ℕ, Option, Some, length, take, is_some, IfOk};
+ghost use Rattle.qpu_token.specs.declared.fault.AsmFault.{AsmFault};
+ghost use Rattle.qpu_expr.specs.declared.limits.TheConstants.{MOST_TOKENS};
+ghost use Rattle.qpu_expr.specs.declared.stop.Stop.TheVariants.{Fault};
+ghost use Rattle.qpu_expr.specs.LineTokens.{LineTokens};
+ghost use Rattle.qpu_expr.specs.Findings.{no_findings, when, place_in};
+ghost use Rattle.qpu_expr.specs.Calls.{called};
+ghost use Rattle.qpu_expr.specs.Stage.{too_long, label_twice};
+ghost use Rattle.qpu_expr.specs.Leads.{Led, StopsAt};
+ghost use Rattle.qpu_expr.specs.Lines.{behind_label, head_of, label_of};
 ghost use Rattle.qpu_expr.specs.Deeds.{left_tokens, deed_by, fault_in, least_fault, done_by, line_does, closing_deed, closes};
 
-use crate::call::text_deed;
-use crate::deed::{Act, Deed, Findings, NO_FINDINGS, behind_word, left_deed, stray_deed};
+use crate::call::{called, text_deed};
+use crate::deed::{
+    Act, Deed, Findings, NO_FINDINGS, behind_word, left_deed, place_in, stray_deed, when,
+};
 use crate::directive::{macro_deed, repeat_deed, set_deed};
-use crate::line::{Head, Line, Pair, behind_label, head_of, is_colon, label_of};
+use crate::line::{BodyLine, Head, Line, Pair, behind_label, head_of, is_colon, label_of};
 use crate::place::{Place, fault_at, place_of};
 use crate::state::{Change, State};
 use crate::stop::Stop;
@@ -31,7 +40,7 @@ fn deed_of(
     state: &State,
     deepest: bool,
     line: &Line,
-    behind: &[Line],
+    behind: &[BodyLine],
 ) -> Result<Deed, AllocError>
     ensures { IfOk result (λ deed. deed ≡ deed_by text.now state.now deepest line.now.end line.now.tokens (behind_label text.now line.now.tokens) behind.now (head_of text.now (behind_label text.now line.now.tokens))) }
 {
@@ -106,20 +115,73 @@ fn do_deed(
     Ok(deed.act)
 }
 
+/// The fault of a line that passes the limit of tokens, where none but that of its depth comes before.
+fn stop_long(text: &[u8], first: &Line, state: &State, word: bool, deep: Option<Place>) -> Stop
+    ensures { (fault : AsmFault) → result ≡ Fault fault → least_fault (label_twice text.now state.now.labels (label_of text.now first.now.tokens)) (too_long state.now first.now word) (record no_findings { deep = deep }) ≡ Some fault }
+{
+    let label = state.label_twice(text, label_of(text, &first.tokens));
+    let findings = Findings {
+        deep,
+        ..NO_FINDINGS
+    };
+    match least_fault(label, state.too_long(first, word), findings) {
+        Some(fault) => Stop::Fault(fault),
+        None => Stop::Memory,
+    }
+}
+
+/// Whether a line calls a macro.
+fn calls(text: &[u8], state: &State, line: &[Token]) -> bool
+    ensures { result ≡ is_some (called text.now state.now.macros line.now) }
+{
+    called(text, state.macros(), line).is_some()
+}
+
+/// The place of a call that is nested too deep.
+fn call_deep(deepest: bool, end: Token, line: &[Token]) -> Option<Place>
+    ensures { result ≡ when deepest (place_in end line.now) }
+{
+    when(deepest, place_in(end, line))
+}
+
+/// Why a line with more tokens than are held stops the expansion, where the first of them tell it.
+fn long_line(text: &[u8], state: &State, deepest: bool, first: &Line) -> Stop
+    ensures { (line : LineTokens) (behind : List LineTokens) (n : ℕ) → first.now ≡ record { tokens = take n line.tokens; end = line.end } → MOST_TOKENS < n → MOST_TOKENS < length line.tokens → StopsAt (line_does text.now deepest line behind state.now) result }
+{
+    let tokens = behind_label(text, &first.tokens);
+    match head_of(text, tokens) {
+        Head::Other => stop_long(text, first, state, true, None),
+        Head::Closes(_) => stop_long(text, first, state, false, None),
+        Head::Instruction => {
+            if calls(text, state, tokens) {
+                let deep = call_deep(deepest, first.end, tokens);
+                stop_long(text, first, state, false, deep)
+            } else {
+                Stop::Memory
+            }
+        }
+        Head::Nothing | Head::Set | Head::Opens(_) => Stop::Memory,
+    }
+}
+
 /// Does what a line does by itself.
 #[tactic(auto, unfolding(crate::specs::Deeds::line_does))]
 pub(crate) fn take_line(
     alloc: Global,
     text: &[u8],
     deepest: bool,
-    line: &Line,
-    behind: &[Line],
+    line: &BodyLine,
+    behind: &[BodyLine],
     state: &mut State,
 ) -> Result<Act, Stop>
     ensures { Led (line_does text.now deepest line.now behind.now state.old) state.new result }
 {
-    let deed = deed_of(alloc, text, state, deepest, line, behind)?;
-    do_deed(alloc, text, line, deed, state)
+    let Some(whole) = line.whole(alloc)? else {
+        let first = line.first(alloc)?;
+        return Err(long_line(text, state, deepest, &first));
+    };
+    let deed = deed_of(alloc, text, state, deepest, &whole, behind)?;
+    do_deed(alloc, text, &whole, deed, state)
 }
 
 /// The faults of the line that closes a body.
@@ -145,11 +207,14 @@ fn closing_deed(line: &[Token]) -> Deed
 pub(crate) fn close_line(
     alloc: Global,
     text: &[u8],
-    line: &Line,
+    line: &BodyLine,
     state: &mut State,
 ) -> Result<Act, Stop>
     ensures { Led (closes text.now line.now state.old) state.new result }
 {
-    let deed = closing_deed(behind_label(text, &line.tokens));
-    do_deed(alloc, text, line, deed, state)
+    let Some(whole) = line.whole(alloc)? else {
+        return Err(Stop::Memory);
+    };
+    let deed = closing_deed(behind_label(text, &whole.tokens));
+    do_deed(alloc, text, &whole, deed, state)
 }

@@ -9,7 +9,11 @@
 //!
 //! What a plain line means isn't told here, and its mnemonics aren't known: all pieces of a part that
 //! look like an expression are worked out, whatever the part begins with. The body of a macro is
-//! copied at each call, also lines of it that a repeat of no turns then leaves out.
+//! copied at each call, also lines of it that a repeat of no turns then leaves out; its arguments are
+//! shared by the copies, and put in only where a line is reached. Of a line with more than four times the
+//! tokens that a text may reach only the first tokens are held: they tell the fault of a call, of a
+//! directive that isn't known and of an end that closes nothing; any other is answered with want of
+//! memory, since it isn't judged.
 #![tactic(auto)]
 
 mod call;
@@ -25,6 +29,7 @@ mod line;
 mod macros;
 mod operand;
 mod operator;
+mod piece;
 mod place;
 mod register;
 mod setting;

@@ -1,8 +1,11 @@
 //! The lines of a text, and what they begin with.
-ghost use Rattle.std.specs.Prelude.{◌≡◌, ◌≤◌, ◌++◌, ◌∷◌, [], IfOk, OnOk, IfSome, None, ◌+◌, ◌^◌, ◌<◌};
+ghost use Rattle.std.specs.Prelude.{◌≡◌, ◌≤◌, ◌++◌, ◌∷◌, [], length, take, MatchOption, IfOk, OnOk, IfSome, None, ◌+◌, ◌^◌, ◌<◌};
+ghost use Rattle.qpu_expr.specs.declared.limits.TheConstants.{MOST_TOKENS};
 ghost use Rattle.qpu_expr.specs.Lines.{column_behind, moved_to, Lining, no_line, lined, lines_of, is_colon, label_of, behind_label, word_head, directive, head_of, nesting_of, nested, body_length};
 
+use crate::limits::{MOST_HELD, MOST_TOKENS};
 use crate::operand::{is_dot, is_name};
+use crate::piece::{Piece, read_front, share_all};
 use crate::register::is_text;
 use crate::symbol::{Sign, Symbol, symbol_of, text_of};
 use qpu_token::Token;
@@ -10,7 +13,10 @@ use std::alloc::{AllocError, Global};
 use std::marker::Model;
 use std::mem;
 
-/// A line: its tokens, and its end.
+/// How many tokens tell what begins a line: a label, and a directive's sign and word.
+const HEAD_TOKENS: usize = 4;
+
+/// A line that is reached: its tokens, and its end.
 #[derive(Drop)]
 pub(crate) struct Line {
     /// The tokens before the end.
@@ -25,6 +31,71 @@ impl Model for Line {
     ghost Value = { LineTokens };
 
     ghost view = { λ l. record { tokens = l.tokens.items; end = l.end } };
+}
+
+/// A line of a text or of a body, whose arguments stay as they were given.
+#[derive(Drop)]
+pub(crate) struct BodyLine {
+    /// Its tokens, piece by piece.
+    pub(crate) pieces: Vec<Piece>,
+    /// The end, with the place that a fault there has.
+    pub(crate) end: Token,
+}
+
+impl Model for BodyLine {
+    ghost use Rattle.qpu_expr.specs.LineTokens.{LineTokens};
+    ghost use Rattle.qpu_expr.specs.Pieces.{joined};
+
+    ghost Value = { LineTokens };
+
+    ghost view = { λ l. record { tokens = joined l.pieces.items; end = l.end } };
+}
+
+impl BodyLine {
+    /// Reads its first tokens, so many as there are.
+    fn read_front(&self, most: usize, tokens: &mut Vec<Token>) -> Result<(), AllocError>
+        ensures { OnOk result (tokens.new.items ≡ take most self.now.tokens) }
+    {
+        read_front(&self.pieces, most, tokens)
+    }
+
+    /// A copy, which shares its arguments.
+    pub(crate) fn copy(&self, alloc: Global) -> Result<BodyLine, AllocError>
+        ensures { IfOk result (λ copy. copy ≡ self.now) }
+    {
+        let pieces = share_all(alloc, &self.pieces)?;
+        Ok(BodyLine {
+            pieces,
+            end: self.end,
+        })
+    }
+
+    /// The line with its first tokens, one more than a text may reach.
+    pub(crate) fn first(&self, alloc: Global) -> Result<Line, AllocError>
+        ensures { IfOk result (λ first. first ≡ record { tokens = take (MOST_TOKENS + 1) self.now.tokens; end = self.now.end }) }
+    {
+        let mut tokens = Vec::new(alloc);
+        self.read_front(MOST_TOKENS + 1, &mut tokens)?;
+        Ok(Line {
+            tokens,
+            end: self.end,
+        })
+    }
+
+    /// The line with its tokens; none where they are more than are held at once.
+    pub(crate) fn whole(&self, alloc: Global) -> Result<Option<Line>, AllocError>
+        ensures { IfOk result (λ whole. MatchOption whole (MOST_TOKENS < length self.now.tokens) (λ line. line ≡ self.now)) }
+    {
+        let mut tokens = Vec::new(alloc);
+        self.read_front(MOST_HELD + 1, &mut tokens)?;
+        if tokens.len() > MOST_HELD {
+            return Ok(None);
+        }
+        Ok(Some(Line {
+            tokens,
+            end: self.end,
+        }))
+    }
 }
 
 /// What bodies are between.
@@ -90,17 +161,18 @@ fn moved_to(end: Token, last: Option<Token>) -> Token
 /// Lines that are being read.
 #[derive(Drop)]
 struct Liner {
-    lines: Vec<Line>,
-    tokens: Vec<Token>,
+    lines: Vec<BodyLine>,
+    pieces: Vec<Piece>,
     last: Option<Token>,
 }
 
 impl Model for Liner {
     ghost use Rattle.qpu_expr.specs.Lines.{Lining};
+    ghost use Rattle.qpu_expr.specs.Pieces.{joined};
 
     ghost Value = { Lining };
 
-    ghost view = { λ l. record { lines = l.lines.items; tokens = l.tokens.items; last = l.last } };
+    ghost view = { λ l. record { lines = l.lines.items; tokens = joined l.pieces.items; last = l.last } };
 }
 
 impl Liner {
@@ -110,7 +182,7 @@ impl Liner {
     {
         Liner {
             lines: Vec::new(alloc),
-            tokens: Vec::new(alloc),
+            pieces: Vec::new(alloc),
             last: None,
         }
     }
@@ -119,9 +191,9 @@ impl Liner {
     fn end(&mut self, alloc: Global, end: Token) -> Result<(), AllocError>
         ensures { OnOk result (self.new ≡ record { lines = self.old.lines ++ record { tokens = self.old.tokens; end = moved_to end self.old.last } ∷ []; tokens = []; last = None }) }
     {
-        let tokens = mem::replace(&mut self.tokens, Vec::new(alloc));
+        let pieces = mem::replace(&mut self.pieces, Vec::new(alloc));
         let end = moved_to(end, self.last);
-        self.lines.push(Line { tokens, end })?;
+        self.lines.push(BodyLine { pieces, end })?;
         self.last = None;
         Ok(())
     }
@@ -133,7 +205,7 @@ impl Liner {
         if matches!(symbol_of(text, token), Symbol::LineEnd) {
             return self.end(alloc, token);
         }
-        self.tokens.push(token)?;
+        self.pieces.push(Piece::of_token(token))?;
         self.last = Some(token);
         Ok(())
     }
@@ -145,7 +217,7 @@ pub(crate) fn lines_of(
     alloc: Global,
     text: &[u8],
     tokens: &[Token],
-) -> Result<Vec<Line>, AllocError>
+) -> Result<Vec<BodyLine>, AllocError>
     ensures { IfOk result (λ lines. lines.items ≡ lines_of text.now tokens.now) }
 {
     let mut liner = Liner::new(alloc);
@@ -257,17 +329,32 @@ fn nested(depth: usize, nesting: Nesting) -> Option<usize>
     }
 }
 
-/// How many lines stand before the one that closes a body; none where none does.
-pub(crate) fn body_length(pair: Pair, text: &[u8], lines: &[Line]) -> Option<usize>
-    ensures { result ≡ body_length pair text.now 0 lines.now }
+/// What begins a line behind its label, read with its first tokens.
+#[tactic(auto, using(crate::proofs::HeadLemmas::head_front))]
+fn head_at(text: &[u8], line: &BodyLine, tokens: &mut Vec<Token>) -> Result<Head, AllocError>
+    ensures { IfOk result (λ head. head ≡ head_of text.now (behind_label text.now line.now.tokens)) }
 {
+    line.read_front(HEAD_TOKENS, tokens)?;
+    Ok(head_of(text, behind_label(text, tokens)))
+}
+
+/// How many lines stand before the one that closes a body; none where none does.
+pub(crate) fn body_length(
+    alloc: Global,
+    pair: Pair,
+    text: &[u8],
+    lines: &[BodyLine],
+) -> Result<Option<usize>, AllocError>
+    ensures { IfOk result (λ n. n ≡ body_length pair text.now 0 lines.now) }
+{
+    let mut tokens = Vec::new(alloc);
     let mut depth = 0;
     for (i, line) in lines.iter().enumerate() {
-        let head = head_of(text, behind_label(text, &line.tokens));
+        let head = head_at(text, line, &mut tokens)?;
         let Some(inner) = nested(depth, nesting_of(pair, head)) else {
-            return Some(i);
+            return Ok(Some(i));
         };
         depth = inner;
     }
-    None
+    Ok(None)
 }

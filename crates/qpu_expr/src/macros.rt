@@ -1,12 +1,14 @@
 //! Macros: their headings, their calls, and what replaces their parameters.
-ghost use Rattle.std.specs.Prelude.{◌≡◌, ◌++◌, ◌∷◌, [], map, None, true, IfOk, OnOk, option_copied, position};
-ghost use Rattle.std.specs.List.{list_any};
+ghost use Rattle.std.specs.Prelude.{◌≡◌, ◌++◌, ◌∷◌, [], None, true, IfOk, OnOk, option_copied, position};
+ghost use Rattle.std.specs.List.{list_any, flat_map};
 ghost use Rattle.std.specs.Option.{option_or};
 ghost use Rattle.qpu_expr.specs.Symbols.{is_named};
-ghost use Rattle.qpu_expr.specs.Macros.{is_comma, Names, no_name, named_on, names_of, heading_fault, repeated_in, Arguments, no_argument, empty_place, argued, arguments_read, arguments_of, argument_fault, argument_for, placed, replaced, line_replaced, body_replaced};
+ghost use Rattle.qpu_expr.specs.Pieces.{joined};
+ghost use Rattle.qpu_expr.specs.Macros.{is_comma, Names, no_name, named_on, names_of, heading_fault, repeated_in, Arguments, no_argument, empty_place, argued, arguments_read, arguments_of, argument_fault, argument_for, replaced, line_replaced, body_replaced};
 
-use crate::line::Line;
+use crate::line::BodyLine;
 use crate::operand::is_name;
+use crate::piece::{Argument, Piece};
 use crate::place::{Place, place_of};
 use crate::symbol::{Sign, Symbol, is_named, symbol_of, text_of};
 use qpu_token::Token;
@@ -22,7 +24,7 @@ pub(crate) struct Macro {
     /// Its parameters.
     pub(crate) parameters: Vec<Token>,
     /// The lines of its body.
-    pub(crate) body: Vec<Line>,
+    pub(crate) body: Vec<BodyLine>,
 }
 
 impl Model for Macro {
@@ -148,21 +150,6 @@ pub(crate) fn repeated(text: &[u8], parameters: &[Token]) -> Option<Place>
     None
 }
 
-/// An argument of a call.
-#[derive(Drop)]
-pub(crate) struct Argument {
-    tokens: Vec<Token>,
-}
-
-impl Model for Argument {
-    ghost use Rattle.std.specs.Prelude.{List};
-    ghost use Rattle.qpu_token.specs.declared.token.Token.{Token};
-
-    ghost Value = { List Token };
-
-    ghost view = { λ a. a.tokens.items };
-}
-
 /// The arguments of a call.
 #[derive(Drop)]
 pub(crate) struct Call {
@@ -216,7 +203,7 @@ impl ArgumentList {
     {
         self.fault = self.fault.or(empty_place(token, &self.last));
         let tokens = mem::replace(&mut self.last, Vec::new(alloc));
-        self.before.push(Argument { tokens })?;
+        self.before.push(Argument::new(alloc, tokens)?)?;
         Ok(())
     }
 
@@ -291,44 +278,57 @@ fn argument_for<'a>(
     }
 }
 
-/// A token at the place of another.
-fn placed(at: Token, token: Token) -> Token
-    ensures { result ≡ placed at token }
-{
-    Token {
-        line: at.line,
-        column: at.column,
-        ..token
-    }
-}
-
-/// Puts tokens at the place of another.
-fn put_placed(at: Token, tokens: &[Token], out: &mut Vec<Token>) -> Result<(), AllocError>
-    ensures { OnOk result (out.new.items ≡ out.old.items ++ map (placed at) tokens.now) }
-{
-    for token in tokens {
-        out.push(placed(at, *token))?;
-    }
-    Ok(())
-}
-
 /// Puts a token, or the argument that replaces it.
 fn put_replaced(
     text: &[u8],
     parameters: &[Token],
     arguments: &[Argument],
     token: Token,
-    out: &mut Vec<Token>,
+    out: &mut Vec<Piece>,
 ) -> Result<(), AllocError>
-    ensures { OnOk result (out.new.items ≡ out.old.items ++ replaced text.now parameters.now arguments.now token) }
+    ensures { OnOk result (joined out.new.items ≡ joined out.old.items ++ replaced text.now parameters.now arguments.now token) }
 {
     if is_name(text, token)
         && let Some(argument) = argument_for(text, parameters, arguments, text_of(text, token))
     {
-        return put_placed(token, &argument.tokens, out);
+        out.push(Piece::of_argument(token, argument)?)?;
+        return Ok(());
     }
-    out.push(token)?;
+    out.push(Piece::of_token(token))?;
     Ok(())
+}
+
+/// Puts the tokens of a piece, or the arguments that replace them.
+fn put_piece(
+    text: &[u8],
+    parameters: &[Token],
+    arguments: &[Argument],
+    piece: &Piece,
+    out: &mut Vec<Piece>,
+) -> Result<(), AllocError>
+    ensures { OnOk result (joined out.new.items ≡ joined out.old.items ++ flat_map (replaced text.now parameters.now arguments.now) piece.now) }
+{
+    for i in 0..piece.len() {
+        put_replaced(text, parameters, arguments, piece.token(i), out)?;
+    }
+    Ok(())
+}
+
+/// Pieces with all parameters replaced.
+fn pieces_replaced(
+    alloc: Global,
+    text: &[u8],
+    parameters: &[Token],
+    arguments: &[Argument],
+    pieces: &[Piece],
+) -> Result<Vec<Piece>, AllocError>
+    ensures { IfOk result (λ all. joined all.items ≡ flat_map (replaced text.now parameters.now arguments.now) (joined pieces.now)) }
+{
+    let mut all = Vec::new(alloc);
+    for piece in pieces {
+        put_piece(text, parameters, arguments, piece, &mut all)?;
+    }
+    Ok(all)
 }
 
 /// A line with all parameters replaced.
@@ -337,16 +337,13 @@ fn line_replaced(
     text: &[u8],
     parameters: &[Token],
     arguments: &[Argument],
-    line: &Line,
-) -> Result<Line, AllocError>
+    line: &BodyLine,
+) -> Result<BodyLine, AllocError>
     ensures { IfOk result (λ l. l ≡ line_replaced text.now parameters.now arguments.now line.now) }
 {
-    let mut tokens = Vec::new(alloc);
-    for token in &line.tokens {
-        put_replaced(text, parameters, arguments, *token, &mut tokens)?;
-    }
-    Ok(Line {
-        tokens,
+    let pieces = pieces_replaced(alloc, text, parameters, arguments, &line.pieces)?;
+    Ok(BodyLine {
+        pieces,
         end: line.end,
     })
 }
@@ -358,8 +355,8 @@ pub(crate) fn body_replaced(
     text: &[u8],
     parameters: &[Token],
     arguments: &[Argument],
-    body: &[Line],
-) -> Result<Vec<Line>, AllocError>
+    body: &[BodyLine],
+) -> Result<Vec<BodyLine>, AllocError>
     ensures { IfOk result (λ lines. lines.items ≡ body_replaced text.now parameters.now arguments.now body.now) }
 {
     let mut lines = Vec::new(alloc);

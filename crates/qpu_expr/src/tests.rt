@@ -427,6 +427,61 @@ fn lines_words_and_tokens_have_limits(rt: HostRuntime) -> Result<(), Fail> {
     Ok(())
 }
 
+/// A macro of one line, so many times its parameter, and its call with so many tokens.
+fn multiplied(
+    alloc: Global,
+    head: &str,
+    parameters: u32,
+    tail: &str,
+    tokens: u32,
+) -> Result<String, Fail> {
+    let body = long_text(alloc, head, "p ", parameters, tail)?;
+    long_text(alloc, body.as_str(), "a ", tokens, "\n")
+}
+
+/// Macros whose calls have eight times the tokens of their argument.
+fn nested_arguments(alloc: Global) -> Result<String, Fail> {
+    let mut text = String::from_str(alloc, ".macro m1, p\np p p p p p p p\n.endm\n")?;
+    for n in 2_u32..9 {
+        let before = n - 1;
+        text.push_str(format!(in alloc;
+            ".macro m{n}, p\nm{before} p p p p p p p p\n.endm\n"
+        )?.as_str())?;
+    }
+    text.push_str("m8 a\n")?;
+    Ok(text)
+}
+
+#[test]
+fn arguments_are_counted_where_their_line_is_reached(rt: HostRuntime) -> Result<(), Fail> {
+    let long = |line, column| AsmFault {
+        kind: AsmKind::TooLong,
+        line,
+        column,
+    };
+    let text = multiplied(rt.alloc(), ".macro m, p\n", 1000, "\n.endm\nm ", 1100)?;
+    assert!(rt; fault(rt.alloc(), text.as_str())? == long(2, 1905));
+    let text = multiplied(
+        rt.alloc(),
+        ".macro a, q\n.endm\n.macro m, p\n",
+        3000,
+        "\n.endm\nm ",
+        3000,
+    )?;
+    assert!(rt; fault(rt.alloc(), text.as_str())? == long(4, 697));
+    let text = nested_arguments(rt.alloc())?;
+    assert!(rt; fault(rt.alloc(), text.as_str())? == long(5, 8));
+    let text = multiplied(
+        rt.alloc(),
+        ".macro m, p\n.rep 0\n",
+        3000,
+        "\n.endr\n.endm\nm ",
+        3000,
+    )?;
+    assert!(rt; shown(rt.alloc(), text.as_str())?.as_str() == "");
+    Ok(())
+}
+
 #[test]
 fn texts_up_to_the_limits_are_expanded(rt: HostRuntime) -> Result<(), Fail> {
     for (head, line, times, words) in [

@@ -1,6 +1,6 @@
 use Rattle.std.proofs.Common.{◌≡◌, ◌++◌, take, map}
 use Rattle.qpu_expr.specs.Macros.{placed}
-use Rattle.qpu_expr.proofs.macros.put_placed.Given as goal
+use Rattle.qpu_expr.proofs.piece.put_placed.Given as goal
 
 abbrev pub invariant-loop-token : goal.invariant-loop-token
 invariant-loop-token l = l.out.items ≡ l.fn.out.items ++ map (placed l.at) (take l.token-index l.tokens)
