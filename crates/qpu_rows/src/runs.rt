@@ -35,9 +35,8 @@ fn replays(alloc: Global, record: &[u8], row: &Row) -> Result<bool, AllocError> 
 fn holds(alloc: Global, row: &Row) -> Result<bool, AllocError> {
     let answer = answered(alloc, &RUN, row.job.as_bytes(), &[], &[])?;
     let text = whole(alloc, row)?;
-    let record = text
-        .get(..text.len() - report_of(row.rest).len())
-        .unwrap_or(b"");
+    let end = text.len().saturating_sub(report_of(row.rest).len());
+    let record = text.get(..end).unwrap_or(b"");
     Ok(
         answer.status == row.status
             && answer.text.as_slice() == text.as_slice()
