@@ -20,7 +20,7 @@ use Rattle.qpu_asm.specs.declared.piece.Piece.{Piece}
 use Rattle.qpu_asm.specs.Pieces.{operand_at}
 use Rattle.qpu_asm.specs.Roles.{source_of}
 use Rattle.qpu_asm.proofs.AgainSpelled.{Spelled}
-use Rattle.qpu_asm.proofs.AgainPieces.{Ends, ends_stops, ends_no_dot, value_name, value_number, no_suffix_at, maybe_suffix, Suffixed, suffix_read, suffix_stops, suffix_behind_value}
+use Rattle.qpu_asm.proofs.AgainPieces.{Ends, ends_stops, ends_no_dot, operand_name, operand_number, no_suffix_at, maybe_suffix, Suffixed, suffix_read, suffix_stops, suffix_behind_operand}
 
 abbrev pub unpack_suffix : ℕ → Option Name
 unpack_suffix u = if u == 0 then None else if u == 3 then Some name.Replicate else Some (name.Pack u)
@@ -102,23 +102,23 @@ operand_read end (Accumulator n) bits [] rest named h calm = absurd h
 operand_read end (Accumulator n) bits (x ∷ mid) rest named h calm =
     let ends : Ends mid = calm mid h.1 in
     let m : Name = name.Register (register.Accumulator n) in
-    let read = suffix_behind_value end (x ∷ mid) mid mid (core.Name m) x.token None (value_name end x mid m h.0 (ends_stops mid ends)) (no_suffix_at mid (ends_no_dot mid ends)) in
+    let read = suffix_behind_operand end (x ∷ mid) mid mid (core.Name m) x.token None (operand_name end x mid m h.0 (ends_stops mid ends)) (no_suffix_at mid (ends_no_dot mid ends)) in
     (mid, h.1, record { core = core.Name m; token = x.token; suffix = None }, read, (x.token, refl))
 operand_read end (FileA n u) bits [] rest named h calm = absurd h
 operand_read end (FileA n u) bits (x ∷ xs) rest named h calm =
     let spelled : Spelled (symbols_of (maybe_suffix (unpack_suffix u) ++ bits)) xs rest = rw (unpack_is u) at h.1 in
     let stop = suffix_stops (unpack_suffix u) bits xs rest spelled calm in
     let s = suffix_read (unpack_suffix u) bits xs rest spelled (λ mid g. ends_no_dot mid (calm mid g)) in
-    let read = suffix_behind_value end (x ∷ xs) xs s.0 (core.Name (source_a n)) x.token s.2 (value_name end x xs (source_a n) h.0 stop) s.3 in
+    let read = suffix_behind_operand end (x ∷ xs) xs s.0 (core.Name (source_a n)) x.token s.2 (operand_name end x xs (source_a n) h.0 stop) s.3 in
     (s.0, s.1, record { core = core.Name (source_a n); token = x.token; suffix = s.2 }, read, (source_a n, x.token, s.2, refl, source_a_is n, s.4))
 operand_read end (FileB n) bits [] rest named h calm = absurd h
 operand_read end (FileB n) bits (x ∷ mid) rest named h calm =
     let ends : Ends mid = calm mid h.1 in
-    let read = suffix_behind_value end (x ∷ mid) mid mid (core.Name (source_b n)) x.token None (value_name end x mid (source_b n) h.0 (ends_stops mid ends)) (no_suffix_at mid (ends_no_dot mid ends)) in
+    let read = suffix_behind_operand end (x ∷ mid) mid mid (core.Name (source_b n)) x.token None (operand_name end x mid (source_b n) h.0 (ends_stops mid ends)) (no_suffix_at mid (ends_no_dot mid ends)) in
     (mid, h.1, record { core = core.Name (source_b n); token = x.token; suffix = None }, read, (source_b n, x.token, refl, source_b_is n))
 operand_read end (Small code) bits [] rest named h calm = absurd h
 operand_read end (Small code) bits (x ∷ mid) rest named h calm =
     let ends : Ends mid = calm mid h.1 in
     let is : x.symbol ≡ symbol.Number (small_value code) = h.0 ∙ ap (λ v. symbol.Number v) (worth_of_small code named) in
-    let read = suffix_behind_value end (x ∷ mid) mid mid (core.Number (small_value code)) x.token None (value_number end x mid (small_value code) is (small_fits code named) (ends_stops mid ends)) (no_suffix_at mid (ends_no_dot mid ends)) in
+    let read = suffix_behind_operand end (x ∷ mid) mid mid (core.Number (small_value code)) x.token None (operand_number end x mid (small_value code) is (small_fits code named) (ends_stops mid ends)) (no_suffix_at mid (ends_no_dot mid ends)) in
     (mid, h.1, record { core = core.Number (small_value code); token = x.token; suffix = None }, read, (x.token, refl))

@@ -20,7 +20,7 @@ use Rattle.qpu_asm.specs.declared.part.Suffixes.{Suffixes}
 use Rattle.qpu_asm.specs.Reading.{Read}
 use Rattle.qpu_asm.specs.Expressions.{length_from, expression_length}
 use Rattle.qpu_asm.specs.declared.expression.Due.TheVariants.{Sign}
-use Rattle.qpu_asm.specs.Pieces.{named, is_minus, is_dot, is_comma, is_colon, stops, name_alone, alone, bare, length_of, target_of_length, value_of_length, target_core, value_core, jump_core, suffix_at, suffix_behind, suffix_of, target_at, operand_at}
+use Rattle.qpu_asm.specs.Pieces.{named, is_minus, is_dot, is_comma, is_colon, stops, name_alone, alone, bare, length_of, target_of_length, value_of_length, target_core, value_core, operand_core, has_dot, jump_core, suffix_at, suffix_behind, suffix_of, target_at, operand_at}
 use Rattle.qpu_asm.specs.Parts.{suffixes_at}
 use Rattle.qpu_asm.specs.Roles.{target_of}
 use Rattle.qpu_asm.specs.Marks.{target_place, somewhere}
@@ -123,6 +123,24 @@ pub value_number : (end : Token) (x : Placed) (rest : List Placed) (n : ℕ) →
     → value_core end (x ∷ rest) ≡ Ok (bare (core.Number n) x.token, rest)
 unfolding value_core
 value_number end x rest n e b h = number_step x rest x.symbol (length_of (x ∷ rest)) n e (number_length x rest n e h) b
+
+operand_name_step : (s : Symbol) (b : Bool) (other r : Read Piece) (n : Name) → s ≡ symbol.Name n → (if is_minus s && b then other else r) ≡ r
+operand_name_step s b other r n e = rw e refl
+
+pub operand_name : (end : Token) (x : Placed) (rest : List Placed) (n : Name) → x.symbol ≡ symbol.Name n → Stops rest
+    → operand_core end (x ∷ rest) ≡ Ok (bare (core.Name n) x.token, rest)
+unfolding operand_core
+operand_name end x rest n e h =
+    operand_name_step x.symbol (has_dot rest) (Ok (bare core.Nowhere x.token, rest)) (value_core end (x ∷ rest)) n e ∙ value_name end x rest n e h
+
+operand_number_step : (s : Symbol) (b : Bool) (other r : Read Piece) (n : ℕ) → s ≡ symbol.Number n → (if is_minus s && b then other else r) ≡ r
+operand_number_step s b other r n e = rw e refl
+
+pub operand_number : (end : Token) (x : Placed) (rest : List Placed) (n : ℕ) → x.symbol ≡ symbol.Number n → n < 4294967296 → Stops rest
+    → operand_core end (x ∷ rest) ≡ Ok (bare (core.Number n) x.token, rest)
+unfolding operand_core
+operand_number end x rest n e b h =
+    operand_number_step x.symbol (has_dot rest) (Ok (bare core.Nowhere x.token, rest)) (value_core end (x ∷ rest)) n e ∙ value_number end x rest n e b h
 
 jump_step : (end : Token) (x : Placed) (rest : List Placed) (s : Symbol) (r other : Read Piece) (n : ℕ) → s ≡ symbol.Number n
     → (if is_colon s then other else r) ≡ r
@@ -312,10 +330,10 @@ pub suffix_behind_target : (end : Token) (xs ys zs : List Placed) (c : Core) (t 
 unfolding target_at
 suffix_behind_target end xs ys zs c t s e f = rw (e, f) refl
 
-pub suffix_behind_value : (end : Token) (xs ys zs : List Placed) (c : Core) (t : Token) (s : Option Suffix)
-    → value_core end xs ≡ Ok (bare c t, ys) → suffix_at ys ≡ Ok (s, zs) → operand_at end xs ≡ Ok (record { core = c; token = t; suffix = s }, zs)
+pub suffix_behind_operand : (end : Token) (xs ys zs : List Placed) (c : Core) (t : Token) (s : Option Suffix)
+    → operand_core end xs ≡ Ok (bare c t, ys) → suffix_at ys ≡ Ok (s, zs) → operand_at end xs ≡ Ok (record { core = c; token = t; suffix = s }, zs)
 unfolding operand_at
-suffix_behind_value end xs ys zs c t s e f = rw (e, f) refl
+suffix_behind_operand end xs ys zs c t s e f = rw (e, f) refl
 
 pub target_read : (end : Token) (to : Place) (o : Option Name) (bits : List Bit) (xs rest : List Placed)
     → Spelled (symbols_of (target_bits to ++ (maybe_suffix o ++ bits))) xs rest → ((mid : List Placed) → Spelled (symbols_of bits) mid rest → Ends mid)

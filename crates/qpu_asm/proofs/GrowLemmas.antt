@@ -24,7 +24,7 @@ use Rattle.qpu_asm.specs.declared.mark.What.{What}
 use Rattle.qpu_asm.specs.declared.mark.What.TheVariants as what
 use Rattle.qpu_asm.specs.declared.mark.Mark.{Mark}
 use Rattle.qpu_asm.specs.Roles.{source_of}
-use Rattle.qpu_asm.specs.Marks.{mark, mark_if, code_of, is_condition, is_set_flags, is_branch_condition, flags_mark, first_suffix, has_condition, second_suffix, suffix_marks, condition_marks, branch_marks, no_suffix, target_place, place_mark, is_pack, is_row, pack_marks, target_marks, somewhere, if_link, fixed, unpack_name, unpack_mark, unpack_marks, source_marks, number_marks, operand_marks, unit_marks, any_number, number_between, load_marks, also_marks, jump_marks, jumping_marks, is_row_name, is_r5, rotation_marks, source_in, other_a, other_b, part_marks}
+use Rattle.qpu_asm.specs.Marks.{mark, mark_if, code_of, is_condition, is_set_flags, is_branch_condition, flags_mark, first_suffix, has_condition, second_suffix, suffix_marks, condition_marks, branch_marks, no_suffix, target_place, place_mark, is_pack, is_row, pack_marks, target_marks, somewhere, if_link, fixed, unpack_name, unpack_mark, unpack_marks, source_marks, number_marks, nowhere_at, operand_marks, unit_marks, any_number, number_between, load_marks, also_marks, jump_marks, jumping_marks, is_row_name, is_r5, rotation_marks, source_in, other_a, other_b, part_marks}
 use Rattle.qpu_asm.proofs.MarkLemmas.{Has, has_left, has_right}
 
 abbrev pub Marking : Type 0
@@ -142,7 +142,7 @@ unfolding operand_marks
 grows_operand_of mul (core.Name n) token s = grows_source mul (piece (core.Name n) token s) (source_of n)
 grows_operand_of mul (core.Number n) token s = grows_number (piece (core.Number n) token s) n
 grows_operand_of mul core.Unknown token s = grows_mark what.Wrong token
-grows_operand_of mul core.Nowhere token s = grows_mark what.Wrong token
+grows_operand_of mul core.Nowhere token s = grows_mark what.Wrong (nowhere_at token s)
 grows_operand_of mul (core.Label at) token s = grows_mark what.Wrong token
 
 pub grows_operand : (mul : Bool) (p : Piece) → Grows (operand_marks mul p)

@@ -23,7 +23,7 @@ use Rattle.qpu_asm.specs.declared.part.Part.{Part}
 use Rattle.qpu_asm.specs.declared.part.Part.TheVariants as part
 use Rattle.qpu_asm.specs.Roles.{takes_one}
 use Rattle.qpu_asm.specs.Reading.{Read, go_on, ended}
-use Rattle.qpu_asm.specs.Pieces.{is_comma, is_dot, is_minus, is_colon, named, suffix_of, suffix_behind, suffix_at, stops, alone, name_alone, bare, length_of, target_of_length, target_core, value_of_length, value_core, label_by, label_core, jump_core, with_suffix, target_at, operand_at, comma_at}
+use Rattle.qpu_asm.specs.Pieces.{is_comma, is_dot, is_minus, is_colon, named, suffix_of, suffix_behind, suffix_at, stops, alone, name_alone, bare, length_of, target_of_length, target_core, value_of_length, value_core, label_by, label_core, jump_core, has_dot, operand_core, with_suffix, target_at, operand_at, comma_at}
 use Rattle.qpu_asm.specs.Parts.{suffixes_at, one_operand, two_operands, operands_at, unit_part, load_part, also_part, branch_part, last_value, last_name, part_by}
 use Rattle.qpu_asm.specs.Orders.{is_unit, is_rotation}
 use Rattle.qpu_asm.proofs.GoodNames.{is_good}
@@ -213,6 +213,12 @@ jump_good end [] good = value_core_good end [] good
 jump_good end (x ∷ rest) good =
     gives_if _ (is_colon x.symbol) (label_core end rest) (value_core end (x ∷ rest)) (λ _. label_good end rest good.1) (λ _. value_core_good end (x ∷ rest) good)
 
+operand_core_good : (end : Token) (xs : List Placed) → Good xs → GivesRead GoodPiece (operand_core end xs)
+unfolding operand_core
+operand_core_good end [] good = value_core_good end [] good
+operand_core_good end (x ∷ rest) good =
+    gives_if _ (is_minus x.symbol && has_dot rest) _ (value_core end (x ∷ rest)) (λ _. (bare_core core.Nowhere x.token tt, good.1)) (λ _. value_core_good end (x ∷ rest) good)
+
 -- with suffixes
 
 with_suffix_good : (r : Read Piece) → GivesRead GoodPiece r → GivesRead GoodPiece (with_suffix r)
@@ -227,7 +233,7 @@ target_good end xs good = with_suffix_good (target_core end xs) (target_core_goo
 
 operand_good : (end : Token) (xs : List Placed) → Good xs → GivesRead GoodPiece (operand_at end xs)
 unfolding operand_at
-operand_good end xs good = with_suffix_good (value_core end xs) (value_core_good end xs good)
+operand_good end xs good = with_suffix_good (operand_core end xs) (operand_core_good end xs good)
 
 comma_good : (end : Token) (xs : List Placed) → Good xs → Gives Good (comma_at end xs)
 comma_good end [] good = tt

@@ -163,12 +163,18 @@ source_marks mul p (Some (operand.Small code)) ms = mark what.Wrong p.token ms
 abbrev pub number_marks : Piece → ℕ → List Mark → List Mark
 number_marks p n ms = no_suffix p.suffix (mark_if (is_none (code_of n)) what.Far p.token (mark (what.Number n) p.token ms))
 
+-- where `-` isn't allowed: at its suffix
+abbrev pub nowhere_at : Token → Option Suffix → Token
+nowhere_at token None = token
+nowhere_at token (Some s) = s.dot
+
 unfoldable pub operand_marks : Bool → Piece → List Mark → List Mark
 operand_marks mul p ms = by_core p.core
   where
     by_core : Core → List Mark
     by_core (core.Name n) = source_marks mul p (source_of n) ms
     by_core (core.Number n) = number_marks p n ms
+    by_core core.Nowhere = mark what.Wrong (nowhere_at p.token p.suffix) ms
     by_core _ = mark what.Wrong p.token ms
 
 -- parts

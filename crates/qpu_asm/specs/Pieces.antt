@@ -114,6 +114,18 @@ unfoldable pub jump_core : Token → List Placed → Read Piece
 jump_core end [] = value_core end []
 jump_core end (x ∷ rest) = if is_colon x.symbol then label_core end rest else value_core end (x ∷ rest)
 
+-- whether a suffix stands at the front
+abbrev pub has_dot : List Placed → Bool
+has_dot [] = false
+has_dot (x ∷ rest) = is_dot x.symbol
+
+-- an operand of a unit: `-` with a suffix is the name of a target, which no operand is; alone it begins an
+-- expression that can't be completed
+unfoldable pub operand_core : Token → List Placed → Read Piece
+operand_core end [] = value_core end []
+operand_core end (x ∷ rest) =
+    if is_minus x.symbol && has_dot rest then Ok (bare core.Nowhere x.token, rest) else value_core end (x ∷ rest)
+
 -- with their suffixes
 
 abbrev pub with_suffix : Read Piece → Read Piece
@@ -123,7 +135,7 @@ unfoldable pub target_at : Token → List Placed → Read Piece
 target_at end xs = with_suffix (target_core end xs)
 
 unfoldable pub operand_at : Token → List Placed → Read Piece
-operand_at end xs = with_suffix (value_core end xs)
+operand_at end xs = with_suffix (operand_core end xs)
 
 -- a comma
 abbrev pub comma_at : Token → List Placed → Result (List Placed) Token

@@ -1,7 +1,7 @@
 //! The marks of a line's parts.
 ghost use Rattle.std.specs.Prelude.{◌≡◌, true, fold, IfOk, OnOk};
 ghost use Rattle.qpu_word.specs.Words.{is_link_address};
-ghost use Rattle.qpu_asm.specs.Marks.{is_condition, is_set_flags, is_branch_condition, first_suffix, has_condition, second_suffix, suffix_marks, condition_marks, branch_marks, no_suffix, target_place, place_mark, is_pack, is_row, pack_marks, target_marks, somewhere, if_link, unpack_name, unpack_marks, source_marks, number_marks, operand_marks, unit_marks, any_number, number_between, load_marks, also_marks, jump_marks, jumping_marks, is_row_name, is_r5, rotation_marks, source_in, other_a, other_b, part_marks, marks_of};
+ghost use Rattle.qpu_asm.specs.Marks.{is_condition, is_set_flags, is_branch_condition, first_suffix, has_condition, second_suffix, suffix_marks, condition_marks, branch_marks, no_suffix, target_place, place_mark, is_pack, is_row, pack_marks, target_marks, somewhere, if_link, unpack_name, unpack_marks, source_marks, number_marks, nowhere_at, operand_marks, unit_marks, any_number, number_between, load_marks, also_marks, jump_marks, jumping_marks, is_row_name, is_r5, rotation_marks, source_in, other_a, other_b, part_marks, marks_of};
 
 use crate::mark::{Marks, What, code_of};
 use crate::part::{AlsoPart, BranchPart, LoadPart, Part, Suffixes, UnitPart};
@@ -142,6 +142,16 @@ pub(crate) fn is_r5(core: Core) -> bool
     match core {
         Core::Name(Name::Register(Register::Accumulator(n))) => n == ROTATION,
         _ => false,
+    }
+}
+
+/// Where an operand `-` isn't allowed: at its suffix.
+fn nowhere_at(token: Token, suffix: Option<Suffix>) -> Token
+    ensures { result ≡ nowhere_at token suffix }
+{
+    match suffix {
+        None => token,
+        Some(s) => s.dot,
     }
 }
 
@@ -314,6 +324,7 @@ impl Marks {
         match piece.core {
             Core::Name(name) => self.put_source(mul, piece, source_of(name)),
             Core::Number(value) => self.put_number(piece, value),
+            Core::Nowhere => self.put(What::Wrong, nowhere_at(piece.token, piece.suffix)),
             _ => self.put(What::Wrong, piece.token),
         }
     }

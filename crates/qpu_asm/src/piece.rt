@@ -1,7 +1,7 @@
 //! Pieces of a part: targets, operands, numbers and labels, with their suffixes.
 ghost use Rattle.std.specs.Prelude.{◌≡◌, drop};
 ghost use Rattle.qpu_asm.specs.Reading.{told, left};
-ghost use Rattle.qpu_asm.specs.Pieces.{named, suffix_at, stops, alone, name_alone, bare, target_core, value_core, label_core, jump_core, target_at, operand_at, comma_at};
+ghost use Rattle.qpu_asm.specs.Pieces.{named, suffix_at, stops, alone, name_alone, bare, target_core, value_core, label_core, jump_core, has_dot, operand_core, target_at, operand_at, comma_at};
 
 use crate::expression::expression_length;
 use crate::placed::Placed;
@@ -17,7 +17,7 @@ pub(crate) enum Core {
     Unknown,
     /// A number.
     Number(u32),
-    /// `-`, no target.
+    /// `-`, which is no target, and no operand.
     Nowhere,
     /// A label, with the word behind it where it is there.
     Label(Option<u32>),
@@ -187,6 +187,31 @@ pub(crate) fn jump_core(end: Token, xs: &[Placed]) -> Result<(Piece, &[Placed]),
     }
 }
 
+/// Whether a suffix stands at the front.
+fn has_dot(xs: &[Placed]) -> bool
+    ensures { result ≡ has_dot xs.now }
+{
+    match xs {
+        [] => false,
+        [x, ..] => x.symbol == Symbol::Dot,
+    }
+}
+
+/// An operand of a unit at the front, its suffix aside. `-` is one only where a suffix stands behind it. The
+/// error is the token that isn't due, or the end.
+#[tactic(auto, unfolding(crate::specs::Pieces::operand_core))]
+fn operand_core(end: Token, xs: &[Placed]) -> Result<(Piece, &[Placed]), Token>
+    ensures { told result ≡ operand_core end xs.now }
+{
+    match xs {
+        [x, rest @ ..] if x.symbol == Symbol::Minus && has_dot(rest) => Ok((
+            bare(Core::Nowhere, x.token),
+            rest,
+        )),
+        _ => value_core(end, xs),
+    }
+}
+
 /// A target with its suffix.
 #[tactic(auto, unfolding(crate::specs::Pieces::target_at))]
 pub(crate) fn target_at(end: Token, xs: &[Placed]) -> Result<(Piece, &[Placed]), Token>
@@ -202,7 +227,7 @@ pub(crate) fn target_at(end: Token, xs: &[Placed]) -> Result<(Piece, &[Placed]),
 pub(crate) fn operand_at(end: Token, xs: &[Placed]) -> Result<(Piece, &[Placed]), Token>
     ensures { told result ≡ operand_at end xs.now }
 {
-    let (piece, rest) = value_core(end, xs)?;
+    let (piece, rest) = operand_core(end, xs)?;
     let (suffix, behind) = suffix_at(rest)?;
     Ok((with_suffix(piece, suffix), behind))
 }

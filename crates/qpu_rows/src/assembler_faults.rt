@@ -179,6 +179,8 @@ fn suffixes_are_judged(rt: HostRuntime) -> Result<(), Fail> {
         ("brr ra0, 0; link ra1", AsmKind::Operands, 1, 18),
         ("or rb0.8a, r0, r0", AsmKind::Operands, 1, 7),
         ("or ra0.8dr, r0, r0", AsmKind::Operands, 1, 7),
+        ("or r0, -.8a, r1", AsmKind::Operands, 1, 9),
+        ("nop; v8min r1, r0, -.16b", AsmKind::Operands, 1, 21),
     ] {
         assert!(rt; has_fault(rt.alloc(), text, kind, line, column), "{text}");
     }
