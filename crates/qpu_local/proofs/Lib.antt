@@ -1,1 +1,3 @@
 pub mod UnitLemmas
+pub mod StayLemmas
+pub mod StoreLemmas
