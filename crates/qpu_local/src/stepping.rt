@@ -214,6 +214,27 @@ impl Processor {
         None
     }
 
+    /// One whole local instruction at its place, whose fields these are, of a program of at most
+    /// 4,096 words. None: it was done. Some: it faulted with `Setup`, `SetupsFull` or `Branch`, and
+    /// the halt alone changed.
+    #[tactic(auto, unfolding(qpu_word::specs::Instruction::local_result), using(qpu_word::proofs::ProfileLemmas::fit_of_fields))]
+    pub fn step_fields<G: Program>(&mut self, program: &G, f: &Fields) -> Option<FaultKind>
+        requires going { self.old.halt ≡ Going }
+        requires executed { self.old.executed < 1000000 }
+        requires words { G.len program.now ≤ 4096 }
+        requires place { self.old.place < G.len program.now }
+        requires profile { IsInProfile (G.word program.now self.old.place) }
+        requires fields { f.now ≡ fields_of (G.word program.now self.old.place) }
+        requires local { IsTrue (is_local f.now) }
+        ensures { Steps result (local_result (G.is_link program.now) (G.word program.now self.old.place) self.old) self.old self.new }
+    {
+        if self.branch_fails(f, program) {
+            self.fault(FaultKind::Branch);
+            return Some(FaultKind::Branch);
+        }
+        self.step_word(f)
+    }
+
     /// One whole local instruction at its place, of a program of at most 4,096 words. None: it was
     /// done. Some: it faulted with `Setup`, `SetupsFull` or `Branch`, and the halt alone changed.
     #[tactic(auto, unfolding(qpu_word::specs::Instruction::local_result), using(qpu_word::proofs::ProfileLemmas::fit_of_fields))]
@@ -229,11 +250,6 @@ impl Processor {
         let Some(word) = program.word(self.place) else {
             unreachable!()
         };
-        let f = word.fields();
-        if self.branch_fails(&f, program) {
-            self.fault(FaultKind::Branch);
-            return Some(FaultKind::Branch);
-        }
-        self.step_word(&f)
+        self.step_fields(program, &word.fields())
     }
 }
