@@ -1,1 +1,4 @@
 pub mod UnitLemmas
+pub mod StayLemmas
+pub mod StoreLemmas
+pub mod AloneLemmas

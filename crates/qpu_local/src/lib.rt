@@ -4,6 +4,7 @@
 //! from or sends to the shared parts goes through its door, the trait `Port`.
 #![tactic(auto)]
 
+mod alone;
 mod control;
 mod flagging;
 mod outs;
@@ -15,6 +16,7 @@ mod stepping;
 mod storing;
 mod units;
 
+pub use alone::is_alone;
 pub use processor::Processor;
 pub use qpu_word::{Flags, Halt};
 

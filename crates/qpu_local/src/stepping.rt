@@ -6,16 +6,18 @@ ghost use Rattle.qpu_word.specs.declared.traffic.Ins.{Ins};
 ghost use Rattle.qpu_word.specs.declared.state.Halt.TheVariants.{Going};
 ghost use Rattle.qpu_word.specs.Fit.{IsFit};
 ghost use Rattle.qpu_word.specs.Books.{IsSoundBook};
-ghost use Rattle.qpu_word.specs.Instruction.{registers_after, moved_on, raised_by, add_stored, mul_stored, add_sent, mul_sent, flags_after, no_ins, done, halted, outs_of, after_setups, after_uniform_to, then_after, branch_fails, local_result};
+ghost use Rattle.qpu_word.specs.Processor.{ProcessorState};
+ghost use Rattle.qpu_word.specs.Instruction.{registers_after, moved_on, raised_by, add_stored, mul_stored, add_sent, mul_sent, flags_after, no_ins, put_add, put_mul, done, halted, outs_of, after_setups, after_uniform_to, then_after, branch_fails, local_result};
 ghost use Rattle.qpu_local.specs.Steps.{Steps};
 ghost use Rattle.qpu_local.specs.Views.{coming_place};
+ghost use Rattle.qpu_local.specs.Quiet.{StaysIn, IsQuiet};
 
 use crate::control::Next;
 use crate::outs::outs;
 use crate::processor::Processor;
 use crate::sending::Sent;
 use crate::storing::cond_of;
-use qpu_word::code::WRITE_HOST_INT;
+use qpu_word::code::{NOWHERE, WRITE_HOST_INT};
 use qpu_word::{Book, FaultKind, Fields, Flags, Halt, Ins, LANES, Lanes, Program, Word};
 
 /// What is read where nothing shared is.
@@ -32,13 +34,31 @@ fn nothing_read() -> Ins
     }
 }
 
+/// Whether no unit writes an address past the registers.
+fn stays_in(f: &Fields) -> bool
+    ensures { IsTrue result → StaysIn f.now }
+{
+    (f.waddr_add <= NOWHERE || !f.add_writes()) && (f.waddr_mul <= NOWHERE || !f.mul_writes())
+}
+
+/// Whether a word has no address, sets no flags and takes no look-up.
+fn is_quiet(f: &Fields) -> bool
+    ensures { IsTrue result → IsQuiet f.now }
+{
+    f.waddr_add == NOWHERE && f.waddr_mul == NOWHERE && f.sf != 1 && !f.takes_words()
+}
+
 impl Processor {
-    /// What the add unit leaves at its address.
-    #[tactic(auto, unfolding(qpu_word::specs::Instruction::add_stored))]
+    /// What the add unit leaves at its address, where it writes one; else what it sends, which
+    /// goes nowhere.
+    #[tactic(auto, unfolding(qpu_word::specs::Instruction::put_add, qpu_word::specs::Instruction::add_stored))]
     fn add_left(&self, f: &Fields, sent: &Sent) -> Lanes
         requires { IsFit f.now }
-        ensures { (ins : Ins) → sent.now.add.v ≡ add_sent f.now self.now ins → result.v ≡ add_stored f.now self.now ins }
+        ensures { (ins : Ins) (p : ProcessorState) → sent.now.add.v ≡ add_sent f.now self.now ins → put_add f.now result.v p ≡ put_add f.now (add_stored f.now self.now ins) p }
     {
+        if !f.add_writes() {
+            return sent.add;
+        }
         self.stored(
             f,
             f.is_exchanged(),
@@ -48,12 +68,16 @@ impl Processor {
         )
     }
 
-    /// What the mul unit leaves at its address.
-    #[tactic(auto, unfolding(qpu_word::specs::Instruction::mul_stored))]
+    /// What the mul unit leaves at its address, where it writes one; else what it sends, which
+    /// goes nowhere.
+    #[tactic(auto, unfolding(qpu_word::specs::Instruction::put_mul, qpu_word::specs::Instruction::mul_stored))]
     fn mul_left(&self, f: &Fields, sent: &Sent) -> Lanes
         requires { IsFit f.now }
-        ensures { (ins : Ins) → sent.now.mul.v ≡ mul_sent f.now self.now ins → result.v ≡ mul_stored f.now self.now ins }
+        ensures { (ins : Ins) (p : ProcessorState) → sent.now.mul.v ≡ mul_sent f.now self.now ins → put_mul f.now result.v p ≡ put_mul f.now (mul_stored f.now self.now ins) p }
     {
+        if !f.mul_writes() {
+            return sent.mul;
+        }
         self.stored(
             f,
             !f.is_exchanged(),
@@ -123,9 +147,39 @@ impl Processor {
         self.halt = Halt::Faulted(kind, self.place);
     }
 
-    /// Does a local word that doesn't fail as a branch.
+    /// Moves on past a word that leaves the registers and flags as they are.
+    #[tactic(auto, using(crate::proofs::StayLemmas::done_quietly))]
+    fn pass(&mut self, f: &Fields)
+        requires fit { IsFit f.now }
+        requires executed { self.old.executed < 1000000 }
+        requires place { IsTrue (is_branch f.now) → self.old.place < 4096 }
+        requires quiet { IsQuiet f.now }
+        ensures { (ins : Ins) → self.new ≡ done f.now self.old ins self.old.book }
+    {
+        let next = self.next(f);
+        self.move_on(self.flags(), next, self.book_now(), 0);
+    }
+
+    /// Does a local word that writes no address past the registers.
+    fn step_within(&mut self, f: &Fields)
+        requires fit { IsFit f.now }
+        requires executed { self.old.executed < 1000000 }
+        requires place { self.old.place < 4096 }
+        ensures { self.new ≡ done f.now self.old no_ins self.old.book }
+    {
+        if is_quiet(f) {
+            self.pass(f);
+            return;
+        }
+        let ins = nothing_read();
+        let sent = self.sent(f, &ins);
+        let book = self.book_now();
+        self.finish(f, &ins, &sent, book);
+    }
+
+    /// Does a local word that may write a setup or the uniforms address.
     #[tactic(auto, using(qpu_word::proofs::BookLemmas::kept_by_setups, qpu_word::proofs::BookLemmas::uniform_sound))]
-    fn step_word(&mut self, f: &Fields) -> Option<FaultKind>
+    fn step_sending(&mut self, f: &Fields) -> Option<FaultKind>
         requires fit { IsFit f.now }
         requires executed { self.old.executed < 1000000 }
         requires place { self.old.place < 4096 }
@@ -146,6 +200,41 @@ impl Processor {
         }
     }
 
+    /// Does a local word that doesn't fail as a branch.
+    fn step_word(&mut self, f: &Fields) -> Option<FaultKind>
+        requires fit { IsFit f.now }
+        requires executed { self.old.executed < 1000000 }
+        requires place { self.old.place < 4096 }
+        ensures { Steps result (then_after (after_setups (outs_of f.now self.old no_ins) self.old.book) (λ book. Ok (done f.now self.old no_ins (after_uniform_to (outs_of f.now self.old no_ins).uniform_to book)))) self.old self.new }
+    {
+        if !stays_in(f) {
+            return self.step_sending(f);
+        }
+        self.step_within(f);
+        None
+    }
+
+    /// One whole local instruction at its place, whose fields these are, of a program of at most
+    /// 4,096 words. None: it was done. Some: it faulted with `Setup`, `SetupsFull` or `Branch`, and
+    /// the halt alone changed.
+    #[tactic(auto, unfolding(qpu_word::specs::Instruction::local_result), using(qpu_word::proofs::ProfileLemmas::fit_of_fields))]
+    pub fn step_fields<G: Program>(&mut self, program: &G, f: &Fields) -> Option<FaultKind>
+        requires going { self.old.halt ≡ Going }
+        requires executed { self.old.executed < 1000000 }
+        requires words { G.len program.now ≤ 4096 }
+        requires place { self.old.place < G.len program.now }
+        requires profile { IsInProfile (G.word program.now self.old.place) }
+        requires fields { f.now ≡ fields_of (G.word program.now self.old.place) }
+        requires local { IsTrue (is_local f.now) }
+        ensures { Steps result (local_result (G.is_link program.now) (G.word program.now self.old.place) self.old) self.old self.new }
+    {
+        if self.branch_fails(f, program) {
+            self.fault(FaultKind::Branch);
+            return Some(FaultKind::Branch);
+        }
+        self.step_word(f)
+    }
+
     /// One whole local instruction at its place, of a program of at most 4,096 words. None: it was
     /// done. Some: it faulted with `Setup`, `SetupsFull` or `Branch`, and the halt alone changed.
     #[tactic(auto, unfolding(qpu_word::specs::Instruction::local_result), using(qpu_word::proofs::ProfileLemmas::fit_of_fields))]
@@ -161,11 +250,6 @@ impl Processor {
         let Some(word) = program.word(self.place) else {
             unreachable!()
         };
-        let f = word.fields();
-        if self.branch_fails(&f, program) {
-            self.fault(FaultKind::Branch);
-            return Some(FaultKind::Branch);
-        }
-        self.step_word(&f)
+        self.step_fields(program, &word.fields())
     }
 }

@@ -9,6 +9,7 @@ ghost use Rattle.qpu_word.specs.Instruction.{write_cond, put_add, put_mul, put_l
 
 use crate::flagging::holds_in;
 use crate::processor::Processor;
+use crate::sending::sixteen;
 use qpu_pack::pack_into;
 use qpu_word::code::{ROWS, WRITE_R0, WRITE_R3, WRITE_R5};
 use qpu_word::{Fields, Flags, Ins, LANES, Lanes};
@@ -24,6 +25,9 @@ const GROUP: usize = 4;
 
 /// The condition that always holds.
 const ALWAYS: u32 = 1;
+
+/// The packing that leaves values as they are.
+const WHOLE: u32 = 0;
 
 /// One number or another.
 fn pick(first: bool, a: u32, b: u32) -> u32
@@ -89,6 +93,22 @@ impl Processor {
         }
     }
 
+    /// What a condition and the packing leave at a row or at r0 to r3; whole values under the
+    /// condition that always holds are left as they are, whatever stood there.
+    #[tactic(auto, using(crate::proofs::StoreLemmas::whole_left))]
+    fn left_at(&self, f: &Fields, in_b: bool, address: u32, cond: u32, values: &Lanes) -> Lanes
+        requires fit { IsFit f.now }
+        requires address { address ≤ 35 }
+        ensures { result.v ≡ left cond self.now.flags (pack_mode f.now in_b) (old_at self.now in_b address) values.now.v }
+    {
+        sixteen(values);
+        let mode = pack_mode_of(f, in_b);
+        if cond == ALWAYS && mode == WHOLE {
+            return *values;
+        }
+        left_of(cond, &self.flags(), mode, &self.old(in_b, address), values)
+    }
+
     /// What a unit leaves at its address of a file.
     #[tactic(auto, unfolding(qpu_word::specs::Writing::stored))]
     pub(crate) fn stored(
@@ -103,13 +123,7 @@ impl Processor {
         ensures { result.v ≡ stored f.now self.now in_b address cond values.now.v }
     {
         if address <= WRITE_R3 {
-            left_of(
-                cond,
-                &self.flags(),
-                pack_mode_of(f, in_b),
-                &self.old(in_b, address),
-                values,
-            )
+            self.left_at(f, in_b, address, cond, values)
         } else {
             replicated_in(in_b, values)
         }

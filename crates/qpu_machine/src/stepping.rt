@@ -14,7 +14,7 @@ ghost use Rattle.qpu_machine.specs.Took.{TookWord};
 use qpu_hazard::{Checked, Programs};
 use qpu_local::Processor;
 use qpu_shared::{Did, Shared};
-use qpu_word::Program;
+use qpu_word::{Fields, Program};
 
 /// Does the local word at a processor's place.
 pub(crate) fn do_local(p: &mut Processor, program: &Checked) -> Did
@@ -27,6 +27,23 @@ pub(crate) fn do_local(p: &mut Processor, program: &Checked) -> Did
     ensures { (h : SharedState) → Does result (local_outcome (local_result (is_link_point program.now) (slice_index program.now p.old.place) p.old) h) p.old h p.new h }
 {
     match p.step_local(program) {
+        None => Did::Stepped,
+        Some(kind) => Did::Faulted(kind),
+    }
+}
+
+/// Does the local word at a processor's place, whose fields these are.
+pub(crate) fn do_fields(p: &mut Processor, program: &Checked, f: &Fields) -> Did
+    requires going { p.old.halt ≡ Going }
+    requires executed { p.old.executed < 1000000 }
+    requires words { length program.now ≤ 4096 }
+    requires place { p.old.place < length program.now }
+    requires profile { IsInProfile (slice_index program.now p.old.place) }
+    requires fields { f.now ≡ fields_of (slice_index program.now p.old.place) }
+    requires local { IsTrue (is_local f.now) }
+    ensures { (h : SharedState) → Does result (local_outcome (local_result (is_link_point program.now) (slice_index program.now p.old.place) p.old) h) p.old h p.new h }
+{
+    match p.step_fields(program, f) {
         None => Did::Stepped,
         Some(kind) => Did::Faulted(kind),
     }

@@ -1,5 +1,5 @@
 -- The word at the place of a processor that is running is there, and it is the program's.
-use Rattle.std.proofs.Common.{◌≡◌, ℕ, List, [], true, Option, Some, ap, sym, subst, ◌∙◌}
+use Rattle.std.proofs.Common.{◌≡◌, ℕ, List, [], true, Some, ap, sym, subst, ◌∙◌}
 use Rattle.std.specs.Prelude.{slice_index, slice_index_or}
 use Rattle.qpu_word.specs.declared.word.Word.{Word}
 use Rattle.qpu_word.specs.Words.{fields_of}
