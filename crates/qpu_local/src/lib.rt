@@ -16,7 +16,7 @@ mod stepping;
 mod storing;
 mod units;
 
-pub use alone::is_alone;
+pub use alone::is_local;
 pub use processor::Processor;
 pub use qpu_word::{Flags, Halt};
 

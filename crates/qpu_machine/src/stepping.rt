@@ -12,28 +12,12 @@ ghost use Rattle.qpu_machine.specs.Machine.{MachineState, processor_of, words_of
 ghost use Rattle.qpu_machine.specs.Took.{TookWord};
 
 use qpu_hazard::{Checked, Programs};
-use qpu_local::Processor;
+use qpu_local::{Processor, is_local};
 use qpu_shared::{Did, Shared};
 use qpu_word::{Fields, Program};
 
-/// Does the local word at a processor's place.
-pub(crate) fn do_local(p: &mut Processor, program: &Checked) -> Did
-    requires going { p.old.halt ≡ Going }
-    requires executed { p.old.executed < 1000000 }
-    requires words { length program.now ≤ 4096 }
-    requires place { p.old.place < length program.now }
-    requires profile { IsInProfile (slice_index program.now p.old.place) }
-    requires local { IsTrue (is_local (fields_of (slice_index program.now p.old.place))) }
-    ensures { (h : SharedState) → Does result (local_outcome (local_result (is_link_point program.now) (slice_index program.now p.old.place) p.old) h) p.old h p.new h }
-{
-    match p.step_local(program) {
-        None => Did::Stepped,
-        Some(kind) => Did::Faulted(kind),
-    }
-}
-
 /// Does the local word at a processor's place, whose fields these are.
-pub(crate) fn do_fields(p: &mut Processor, program: &Checked, f: &Fields) -> Did
+pub(crate) fn do_local(p: &mut Processor, program: &Checked, f: &Fields) -> Did
     requires going { p.old.halt ≡ Going }
     requires executed { p.old.executed < 1000000 }
     requires words { length program.now ≤ 4096 }
@@ -64,8 +48,9 @@ fn do_word(p: &mut Processor, program: &Checked, shared: &mut Shared, q: u32) ->
     let Some(word) = program.word(p.place()) else {
         unreachable!()
     };
-    if word.is_local() {
-        do_local(p, program)
+    let f = word.fields();
+    if is_local(word, &f) {
+        do_local(p, program, &f)
     } else {
         shared.exec(q, p, word)
     }

@@ -3,9 +3,9 @@ ghost use Rattle.std.specs.Prelude.{◌≡◌, ◌≤◌, false};
 ghost use Rattle.qpu_machine.specs.Kept.{IsKeptAlone};
 ghost use Rattle.qpu_machine.specs.Local.{LocalSteps, TookLocal, is_local_next};
 
-use crate::stepping::{do_fields, do_local};
+use crate::stepping::do_local;
 use qpu_hazard::Checked;
-use qpu_local::{Halt, Processor, is_alone};
+use qpu_local::{Halt, Processor, is_local};
 use qpu_word::Program;
 
 /// Does the local word at the place of a processor, where it has a local step under a limit. Else
@@ -23,14 +23,10 @@ fn step_alone(processor: &mut Processor, program: &Checked, limit: u32) -> bool
         unreachable!()
     };
     let f = word.fields();
-    if is_alone(&f) {
-        do_fields(processor, program, &f);
-        return true;
-    }
-    if !word.is_local() {
+    if !is_local(word, &f) {
         return false;
     }
-    do_local(processor, program);
+    do_local(processor, program, &f);
     true
 }
 

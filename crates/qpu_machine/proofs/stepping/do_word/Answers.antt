@@ -18,7 +18,7 @@ exec-requires-clause-straight c =
     let is : c.in-Some.word.0 ≡ slice_index c.args.program.now c.args.p.now.place =
     ap (λ (w : Word). w.0) c.in-Some.ensures.1 ∙ ap (slice_index c.args.program.now) c.place.ensures in
     let low : c.args.p.now.place < length c.args.program.now = place_in c.args.program.now c.args.p.now _ c.words-words.ensures.clean c.requires.on_path in
-    shared_straight c.in-Some.word.0 (rw is (c.words-words.ensures.inside c.args.p.now.place low)) (sym c.is_local.ensures ∙ c.if-is_local.false)
+    shared_straight c.in-Some.word.0 (rw is (c.words-words.ensures.inside c.args.p.now.place low)) (rw (← c.fields-f.ensures) (sym c.is_local.ensures ∙ c.if-is_local.false))
 
 pub exec-requires-clause-room : goal.exec-requires-clause-room
 exec-requires-clause-room c =
@@ -32,6 +32,6 @@ returns-then-is_local c =
     let is : c.in-Some.word.0 ≡ slice_index c.args.program.now c.args.p.now.place =
     ap (λ (w : Word). w.0) c.in-Some.ensures.1 ∙ ap (slice_index c.args.program.now) c.place.ensures in
     let local : is_local (fields_of (slice_index c.args.program.now c.args.p.now.place)) ≡ true =
-    rw (← is) (sym c.is_local.ensures ∙ c.if-is_local.true) in
+    rw (← is, ← c.fields-f.ensures) (sym c.is_local.ensures ∙ c.if-is_local.true) in
     rw (← c.requires.number, outcome_local (is_link_point c.args.program.now) (slice_index c.args.program.now c.args.p.now.place) c.args.p.now c.args.shared.now local)
     (c.do_local.ensures c.args.shared.now)

@@ -20,17 +20,7 @@ returns c =
     let told : c.is_local.result ≡ true = search rules in
     let is : c.in-Some.word.0 ≡ slice_index c.args.program.now c.args.processor.now.place =
     ap (λ (w : Word). w.0) c.in-Some.ensures.1 ∙ ap (slice_index c.args.program.now) c.place.ensures in
-    let local : is_local (fields_of (slice_index c.args.program.now c.args.processor.now.place)) ≡ true = rw (← is) (sym c.is_local.ensures ∙ told) in
+    let local : is_local (fields_of (slice_index c.args.program.now c.args.processor.now.place)) ≡ true =
+    rw (← is, ← c.fields-f.ensures) (sym c.is_local.ensures ∙ told) in
     took_local c.args.program.now c.args.limit c.args.processor.now c.do_local.new.p c.do_local.result (opening_shared [])
     (next_is c.args.program.now c.args.limit c.args.processor.now going less local) (c.do_local.ensures (opening_shared []))
-
-pub returns-then-is_alone : goal.returns-then-is_alone
-returns-then-is_alone c =
-    let going : c.args.processor.now.halt ≡ Going = search rules in
-    let less : c.args.processor.now.executed < c.args.limit = search rules in
-    let is : c.in-Some.word.0 ≡ slice_index c.args.program.now c.args.processor.now.place =
-    ap (λ (w : Word). w.0) c.in-Some.ensures.1 ∙ ap (slice_index c.args.program.now) c.place.ensures in
-    let local : is_local (fields_of (slice_index c.args.program.now c.args.processor.now.place)) ≡ true =
-    rw (← is, ← c.fields-f.ensures) (c.is_alone.ensures c.if-is_alone.true) in
-    took_local c.args.program.now c.args.limit c.args.processor.now c.do_fields.new.p c.do_fields.result (opening_shared [])
-    (next_is c.args.program.now c.args.limit c.args.processor.now going less local) (c.do_fields.ensures (opening_shared []))
