@@ -14,12 +14,7 @@ use qpu_line::{
     Write, address_of,
 };
 use qpu_word::Place;
-use qpu_word::code::{NOWHERE, ROTATE_BY_R5, WORD_BYTES};
-
-/// The condition always of a write, and of a branch.
-const ALWAYS: u32 = 1;
-
-const BRANCH_ALWAYS: u32 = 15;
+use qpu_word::code::{BRANCH_ALWAYS, COND_ALWAYS, INSTRUCTION_BYTES, NOWHERE, ROTATE_BY_R5};
 
 /// Distances of rotations are below.
 const DISTANCES: u32 = 16;
@@ -38,7 +33,7 @@ fn condition_in(suffix: Option<Suffix>) -> u32
                 ..
             },
         ) => code,
-        _ => ALWAYS,
+        _ => COND_ALWAYS,
     }
 }
 
@@ -155,7 +150,7 @@ fn condition_at(to: Place, suffix: Option<Suffix>) -> u32
     ensures { result ≡ condition_at to suffix }
 {
     if is_nowhere(to) {
-        ALWAYS
+        COND_ALWAYS
     } else {
         condition_in(suffix)
     }
@@ -403,8 +398,8 @@ fn load_of_part(load: LoadPart, later: &[Part]) -> Load
 fn to_label(relative: bool, at: u32, word: u32) -> u32
     ensures { result ≡ distance relative at (Label (Some word)) }
 {
-    let bytes = u64::from(WORD_BYTES) * u64::from(word);
-    let behind = u64::from(WORD_BYTES) * (u64::from(at) + UP_TO_TARGET);
+    let bytes = u64::from(INSTRUCTION_BYTES) * u64::from(word);
+    let behind = u64::from(INSTRUCTION_BYTES) * (u64::from(at) + UP_TO_TARGET);
     let target = if relative {
         (1 << 36) + bytes - behind
     } else {

@@ -1,7 +1,8 @@
 //! The words of a text that has one in a line.
 ghost use Rattle.std.specs.Prelude.{◌≡◌, ◌<◌, ◌≤◌, ◌+◌, ◌∷◌, ◌++◌, [], length, position, IfOk, IfErr, IfSome, MatchOption, OnOk};
 ghost use Rattle.qpu_asm.specs.Answers.{Leads, StopsAt};
-ghost use Rattle.qpu_asm.specs.HexLines.{is_line_feed, hex_lines, hex_line, with_hex, hex_words, numbers_of, AreHexWords, IsHexFault};
+ghost use Rattle.qpu_word.specs.Words.{numbers_of};
+ghost use Rattle.qpu_asm.specs.HexLines.{is_line_feed, hex_lines, hex_line, with_hex, hex_words, AreHexWords, IsHexFault};
 
 use crate::hex::{HexLine, hex_line};
 use crate::stop::Stop;

@@ -4,10 +4,7 @@ ghost use Rattle.qpu_dma.specs.Transfers.{fits, pair_at, transfer_pairs};
 ghost use Rattle.qpu_dma.specs.Places.{plan_of, IsPossible, IsMovable};
 
 use crate::Pair;
-use qpu_word::code::{VPM_COLUMNS, VPM_ROWS};
-
-/// The bytes of a word.
-pub(crate) const WORD: u32 = 4;
+use qpu_word::code::{VPM_COLUMNS, VPM_ROWS, WORD_BYTES};
 
 /// The places of a transfer: rows of so many words.
 #[derive(Clone, Copy, Debug)]
@@ -63,14 +60,16 @@ impl Places {
     {
         let along = u64::from(j);
         let across = u64::from(k) * u64::from(self.vpm_pitch);
-        let bytes = u64::from(self.address) + u64::from(k) * self.pitch + u64::from(WORD) * along;
+        let bytes = u64::from(self.address)
+            + u64::from(k) * self.pitch
+            + u64::from(WORD_BYTES) * along;
         let (down, right) = if self.vertical {
             (along, across)
         } else {
             (across, along)
         };
         Spot {
-            word: bytes / u64::from(WORD),
+            word: bytes / u64::from(WORD_BYTES),
             row: u64::from(self.row) + down,
             column: u64::from(self.column) + right,
         }
@@ -81,7 +80,7 @@ impl Places {
     fn is_aligned(&self) -> bool
         ensures { result ≡ ((self.now.address % 4 == 0) && (nat_lt self.now.rows 2 || (self.now.aligned % 4 == 0))) }
     {
-        self.address % WORD == 0 && (self.rows < 2 || self.aligned % WORD == 0)
+        self.address % WORD_BYTES == 0 && (self.rows < 2 || self.aligned % WORD_BYTES == 0)
     }
 
     /// Whether the transfer may start, for a memory of so many words. No pair has a greater word,

@@ -4,8 +4,9 @@ ghost use Rattle.qpu_dma.specs.Transfers.{store_plan, fits, pair_at, transfer_pa
 ghost use Rattle.qpu_dma.specs.Places.{plan_of, transfer_of, IsPossible};
 
 use crate::bits::{bits, counted_bits};
-use crate::places::{Places, WORD};
+use crate::places::Places;
 use crate::{Pair, TransferOut};
+use qpu_word::code::WORD_BYTES;
 use std::marker::Model;
 
 /// A DMA store that may start: the pairs of memory words and VPM cells that it moves. Contracts
@@ -40,7 +41,7 @@ fn places(setup: u32, stride: u32, address: u32) -> Places
         rows: counted_bits(setup, 23, 7),
         length: depth,
         address,
-        pitch: u64::from(WORD) * u64::from(depth) + u64::from(stride),
+        pitch: u64::from(WORD_BYTES) * u64::from(depth) + u64::from(stride),
         row: bits(setup, 7, 7),
         column: bits(setup, 3, 4),
         vertical: bits(setup, 14, 1) == 0,

@@ -6,11 +6,11 @@ use Rattle.std.specs.Prelude.{◌≡◌, ◌≤◌, ℕ, ◌+◌, ◌-◌, ◌*�
 use Rattle.std.specs.List.{range_with_len}
 use Rattle.qpu_word.specs.declared.word.Word.{Word}
 use Rattle.qpu_word.specs.declared.word.Fields.{Fields}
-use Rattle.qpu_word.specs.declared.code.TheConstants.{BRANCH_SLOTS, END_SLOTS, WORD_BYTES, PROGRAM_WORDS}
-use Rattle.qpu_word.specs.Words.{is_branch, is_program_end}
+use Rattle.qpu_word.specs.declared.code.TheConstants.{BRANCH_SLOTS, END_SLOTS, INSTRUCTION_BYTES, PROGRAM_WORDS}
+use Rattle.qpu_word.specs.Words.{is_branch, is_program_end, numbers_of}
 use Rattle.qpu_word.specs.Operations.{low32}
 use Rattle.qpu_word.specs.Instruction.{link_of, is_link_point}
-use Rattle.qpu_flow.specs.declared.branch.TheConstants.{BRANCH_ALWAYS}
+use Rattle.qpu_word.specs.declared.code.TheConstants.{BRANCH_ALWAYS}
 use Rattle.qpu_flow.specs.declared.slots.Slots.{Slots}
 use Rattle.qpu_flow.specs.declared.slots.Successors.{Successors}
 use Rattle.qpu_flow.specs.declared.control.Control.{Control}
@@ -20,7 +20,7 @@ use Rattle.qpu_flow.specs.declared.control.Target.{Target}
 use Rattle.qpu_flow.specs.declared.control.Target.TheVariants.{Byte, AnyLink as ToAnyLink}
 use Rattle.qpu_flow.specs.declared.control.Next.{Next}
 use Rattle.qpu_flow.specs.declared.control.Next.TheVariants.{At, AnyLink, Ended, Outside}
-use Rattle.qpu_flow.specs.Code.{numbers_of, fields_at, AllInProfile}
+use Rattle.qpu_flow.specs.Code.{fields_at, AllInProfile}
 
 -- branches
 
@@ -38,7 +38,7 @@ plain_target at f = low32 (f.immediate + (if f.rel == 1 then link_of at else 0))
 
 -- a byte address at which a word of the program stands
 abbrev pub is_word_byte : List ℕ → ℕ → Bool
-is_word_byte code byte = (byte % WORD_BYTES == 0) && nat_lt (byte / WORD_BYTES) (length code)
+is_word_byte code byte = (byte % INSTRUCTION_BYTES == 0) && nat_lt (byte / INSTRUCTION_BYTES) (length code)
 
 -- the link points of a program, in ascending order
 unfoldable pub link_points : List ℕ → List ℕ
@@ -104,7 +104,7 @@ asks_for (Some asked) at = asked == at
 abbrev pub leads_to : List ℕ → Successors → ℕ → Bool
 leads_to code next at =
     nat_lt at (length code)
-    && (asks_for next.ahead at || asks_for next.jump (WORD_BYTES * at) || (next.any_link && is_link_point code at))
+    && (asks_for next.ahead at || asks_for next.jump (INSTRUCTION_BYTES * at) || (next.any_link && is_link_point code at))
 
 -- a place behind the last word
 abbrev pub is_past : List ℕ → Option ℕ → Bool
@@ -130,7 +130,7 @@ going code place rest = if nat_lt place (length code) then At (record { place = 
 abbrev pub arrived : List ℕ → Target → Next
 arrived code ToAnyLink = AnyLink
 arrived code (Byte byte) =
-    if is_word_byte code byte then At (record { place = byte / WORD_BYTES; rest = Straight }) else Outside
+    if is_word_byte code byte then At (record { place = byte / INSTRUCTION_BYTES; rest = Straight }) else Outside
 
 -- control after a word that is no branch and no program end
 abbrev pub gone_on : List ℕ → Rest → ℕ → Next

@@ -4,10 +4,7 @@ ghost use Rattle.qpu_flow.specs.Control.{is_always, is_register, plain_target, t
 
 use crate::control::{Rest, Target};
 use qpu_word::Fields;
-use qpu_word::code::{BRANCH_SLOTS, WORD_BYTES};
-
-/// The condition of a branch that is always taken (Guide, "QPU Instruction Encoding").
-pub const BRANCH_ALWAYS: u32 = 15;
+use qpu_word::code::{BRANCH_ALWAYS, BRANCH_SLOTS, INSTRUCTION_BYTES};
 
 /// Whether a branch's condition is always.
 pub(crate) fn is_always(f: &Fields) -> bool
@@ -30,7 +27,7 @@ pub(crate) fn plain_target(at: u32, f: &Fields) -> u32
     ensures { result ≡ plain_target at f.now }
 {
     let base = if f.rel == 1 {
-        WORD_BYTES * (at + 1 + BRANCH_SLOTS)
+        INSTRUCTION_BYTES * (at + 1 + BRANCH_SLOTS)
     } else {
         0
     };

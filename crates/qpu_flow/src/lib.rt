@@ -11,7 +11,6 @@ mod flow;
 mod slots;
 mod ways;
 
-pub use branch::BRANCH_ALWAYS;
 pub use control::{Control, Next, Rest, Target};
 pub use flow::{Flow, FlowFault, first_outside};
 pub use slots::{Slots, Successors};

@@ -7,7 +7,7 @@ use crate::branch::{branched, is_always, is_register, plain_target};
 use crate::control::{Control, Next, Rest, Target};
 use crate::flow::Flow;
 use crate::slots::{Slots, Successors};
-use qpu_word::code::{BRANCH_SLOTS, END_SLOTS, WORD_BYTES};
+use qpu_word::code::{BRANCH_SLOTS, END_SLOTS, INSTRUCTION_BYTES};
 
 /// One word further in the slots; none one word after the last.
 fn one_less(slots: Option<Slots>) -> Option<Slots>
@@ -29,7 +29,7 @@ impl Flow {
         ensures { SomeIff result (IsTrue (is_word_byte self.now byte)) (byte / 8) }
     {
         if self.is_word_byte(byte) {
-            Some(byte / WORD_BYTES)
+            Some(byte / INSTRUCTION_BYTES)
         } else {
             None
         }
@@ -39,7 +39,7 @@ impl Flow {
     fn is_word_byte(&self, byte: u32) -> bool
         ensures { result ≡ is_word_byte self.now byte }
     {
-        byte % WORD_BYTES == 0 && byte / WORD_BYTES < self.len()
+        byte % INSTRUCTION_BYTES == 0 && byte / INSTRUCTION_BYTES < self.len()
     }
 
     /// The slots in progress after the word at a place, a word of the program, where `slots` were in
@@ -172,7 +172,7 @@ impl Flow {
             Target::AnyLink => Next::AnyLink,
             Target::Byte(byte) => if self.is_word_byte(byte) {
                 Next::At(Control {
-                    place: byte / WORD_BYTES,
+                    place: byte / INSTRUCTION_BYTES,
                     rest: Rest::Straight,
                 })
             } else {

@@ -1,10 +1,9 @@
 -- What holds of a word that may follow a path of a clean program: what its processor and the shared
 -- parts can lean on. This project's own.
 use Rattle.std.specs.Prelude.{◌≡◌, ◌<◌, ◌≤◌, ◌+◌, ℕ, true, false, List, length, IfSome}
-use Rattle.qpu_word.specs.declared.code.TheConstants.{READ_UNIFORM, WRITE_UNIFORMS_ADDRESS}
+use Rattle.qpu_word.specs.declared.code.TheConstants.{READ_UNIFORM, WRITE_UNIFORMS_ADDRESS, LOOK_UPS}
 use Rattle.qpu_word.specs.Words.{is_branch, is_program_end, is_tmu_load, reads, writes}
 use Rattle.qpu_flow.specs.Code.{fields_at}
-use Rattle.qpu_hazard.specs.declared.demands.TheConstants.{LOOKS_MOST}
 use Rattle.qpu_hazard.specs.Demands.{actions, looks_made, tests_zn, tests_carry, uses_r4}
 use Rattle.qpu_hazard.specs.Paths.{last_of, earlier_of, slots_of, loaded_of, flags_of, carry_of, looks_of}
 
@@ -31,9 +30,9 @@ pub record DefinedHold (code t : List ℕ) (a : ℕ) : Type 0 where
 -- a look-up of a unit finds fewer than four outstanding, a TMU load finds one, and four are never
 -- passed
 pub record LooksHold (code t : List ℕ) (a unit : ℕ) : Type 0 where
-  pub room : 0 < looks_made (fields_at code a) unit → looks_of code unit t < LOOKS_MOST
+  pub room : 0 < looks_made (fields_at code a) unit → looks_of code unit t < LOOK_UPS
   pub one : is_tmu_load (fields_at code a) unit ≡ true → 0 < looks_of code unit t
-  pub most : looks_of code unit t + looks_made (fields_at code a) unit ≤ LOOKS_MOST
+  pub most : looks_of code unit t + looks_made (fields_at code a) unit ≤ LOOK_UPS
 
 -- all of it
 pub record WordHolds (code t : List ℕ) (a : ℕ) : Type 0 where

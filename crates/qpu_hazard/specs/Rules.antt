@@ -2,12 +2,12 @@
 -- what was executed before it. H14 (a rotation of an operand that can't be rotated) and H17 (a
 -- semaphore word that writes) ask one word alone, and stand among the faults of words.
 use Rattle.std.specs.Prelude.{ℕ, ◌+◌, ◌==◌, ◌&&◌, ◌||◌, Bool, not, nat_lt, List, [], ◌∷◌, ◌++◌, Option, Some, None, if◌then◌else◌}
+use Rattle.qpu_word.specs.declared.code.TheConstants.{LOOK_UPS}
 use Rattle.qpu_word.specs.declared.word.Fields.{Fields}
 use Rattle.qpu_word.specs.Words.{is_branch, is_program_end}
 use Rattle.qpu_flow.specs.declared.slots.Slots.{Slots}
 use Rattle.qpu_flow.specs.Code.{fields_at}
 use Rattle.qpu_flow.specs.Control.{slots_after, next_from, leads_out}
-use Rattle.qpu_hazard.specs.declared.demands.TheConstants.{LOOKS_MOST}
 use Rattle.qpu_hazard.specs.declared.breaks.Break.{Break}
 use Rattle.qpu_hazard.specs.Demands.{row_conflict, rotation_conflict, rotated_conflict, uniform_conflict, accesses, writes_row, touches_end_row, actions, writes_one_place, uses_r4, tests_zn, tests_carry, looks_made, looks_taken, writes_by_condition, vpm_accesses}
 
@@ -92,7 +92,7 @@ h12 loaded flags carry f at =
 -- H13: a unit holds four look-ups at most, and no TMU load meets an empty queue
 abbrev pub h13 : ℕ → ℕ → Fields → ℕ → List Break
 h13 unit looks f at =
-    when (nat_lt LOOKS_MOST (looks + looks_made f unit) || nat_lt (looks + looks_made f unit) (looks_taken f unit)) 13 at
+    when (nat_lt LOOK_UPS (looks + looks_made f unit) || nat_lt (looks + looks_made f unit) (looks_taken f unit)) 13 at
 
 -- H15: behind r3 a unit writes by the condition always, or not at all
 abbrev pub h15 : Fields → ℕ → List Break

@@ -1,7 +1,7 @@
 -- Where a processor stands on a path: at a word that may follow, with a branch or program end in
 -- progress as the path leaves it, and its choice made. This project's own.
 use Rattle.std.specs.Prelude.{◌≡◌, ◌⊎◌, ◌<◌, ◌/◌, ℕ, true, false, List, Option, IfSome, IsSomeAnd, IsTrue}
-use Rattle.qpu_word.specs.declared.code.TheConstants.{WORD_BYTES}
+use Rattle.qpu_word.specs.declared.code.TheConstants.{INSTRUCTION_BYTES}
 use Rattle.qpu_word.specs.Words.{is_branch, is_program_end}
 use Rattle.qpu_word.specs.Instruction.{is_link_point}
 use Rattle.qpu_word.specs.declared.state.Rest.{Rest as ProcessorRest}
@@ -50,7 +50,7 @@ Goes code t Outside = ⊥
 abbrev pub IsTargetOf : List ℕ → ℕ → ℕ → Type 0
 IsTargetOf code branch place =
     ((is_register (fields_at code branch) ≡ true) × (is_link_point code place ≡ true))
-    ⊎ ((is_register (fields_at code branch) ≡ false) × (place ≡ plain_target branch (fields_at code branch) / WORD_BYTES))
+    ⊎ ((is_register (fields_at code branch) ≡ false) × (place ≡ plain_target branch (fields_at code branch) / INSTRUCTION_BYTES))
 
 -- a processor's rest fits the slots that a path leaves
 abbrev pub ProcessorRestIs : List ℕ → Option Slots → ProcessorRest → Type 0

@@ -18,7 +18,6 @@ mod trail;
 
 pub use breaks::{Break, Hazard};
 pub use checked::{CheckFault, Checked, Programs, check};
-pub use demands::LOOKS_MOST;
 pub use laws::{
     clean_programs_are_not_refused, masks_are_defined_by_the_path, opens_on_a_path,
     processors_open_on_a_path, processors_stay_on_a_path, stays_on_a_path, the_next_word_holds,

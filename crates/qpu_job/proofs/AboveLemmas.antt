@@ -7,7 +7,7 @@ use Rattle.std.proofs.lemmas.Bool.Decides.{nat_tests}
 use Rattle.std.proofs.lemmas.List.{drop_all, length-map}
 use Rattle.qpu_word.proofs.ProfileLemmas.{every_row}
 use Rattle.qpu_job.specs.declared.job.Value.{Value}
-use Rattle.qpu_job.specs.declared.above.TheConstants.{WORD_BYTES}
+use Rattle.qpu_word.specs.declared.code.TheConstants.{WORD_BYTES}
 use Rattle.qpu_job.specs.declared.job.ProgramText.{ProgramText}
 use Rattle.qpu_job.specs.declared.fault.JobFault.{JobFault}
 use Rattle.qpu_job.specs.declared.above.Above.{Above as Held}

@@ -1,5 +1,6 @@
 -- What every line keeps of what stands above it.
 use Rattle.std.proofs.Common.{◌≡◌, ℕ, suc, ◌+◌, ◌<◌, ◌≤◌, Bool, true, false, List, [], ◌∷◌, ◌++◌, length, get_or, map, Option, Some, None, All, refl, ap, arith}
+use Rattle.qpu_word.specs.declared.code.TheConstants.{LIMIT_MOST}
 use Rattle.std.specs.Prelude.{position, not, ◌||◌, nat_eq, bytes_eq, IfSome, option_map, option_and_then, codes, is_some, is_none, if◌then◌else◌}
 use Rattle.std.specs.List.{list_any}
 use Rattle.std.proofs.lemmas.Bool.{not-true, not-false, and_parts, or_parts}
@@ -8,7 +9,7 @@ use Rattle.std.proofs.lemmas.List.Elements.{All-nil, All-cons}
 use Rattle.std.proofs.lemmas.List.Sums.{fails_before_first}
 use Rattle.qpu_word.proofs.ProfileLemmas.{every_row}
 use Rattle.qpu_job.specs.declared.job.Value.{Value}
-use Rattle.qpu_job.specs.declared.job.TheConstants.{MOST_MEMORY, MOST_LIMIT, MOST_PROGRAMS, MOST_TEXT}
+use Rattle.qpu_job.specs.declared.job.TheConstants.{MOST_MEMORY, MOST_PROGRAMS, MOST_TEXT}
 use Rattle.qpu_job.specs.declared.cause.Cause.{Cause}
 use Rattle.qpu_job.specs.declared.cause.Cause.TheVariants as cause
 use Rattle.qpu_job.specs.declared.stage.Stage.{Stage}
@@ -48,7 +49,7 @@ pub record IsAbove (total line rest : ℕ) (above : Above) : Type 0 where
   pub most : total ≤ MOST_TEXT
   pub number : line + rest ≤ total + 1
   pub memory : HasMemory above.stage above.plan
-  pub limit : above.plan.limit ≤ MOST_LIMIT
+  pub limit : above.plan.limit ≤ LIMIT_MOST
   pub values : All (λ (value : Value). value.at < above.plan.words) above.plan.values
   pub few : length above.plan.programs + how_many above.inside ≤ MOST_PROGRAMS
   pub programs : All IsProgram above.plan.programs
@@ -251,7 +252,7 @@ right_size above words h =
     let f : has_wrong_size (Memory words) ≡ false = no_fault above (Memory words) h 1 cause.Size (omega arith) in
     (grind (arith, nat_tests), grind (arith, nat_tests))
 
-pub right_limit : (above : Above) (limit : ℕ) → first_cause above (Limit limit) ≡ None → limit ≤ MOST_LIMIT
+pub right_limit : (above : Above) (limit : ℕ) → first_cause above (Limit limit) ≡ None → limit ≤ LIMIT_MOST
 unfolding is_too_much
 right_limit above limit h =
     let f : is_too_much above (Limit limit) ≡ false = no_fault above (Limit limit) h 2 cause.Limit (omega arith) in

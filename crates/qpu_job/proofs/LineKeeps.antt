@@ -8,7 +8,7 @@ use Rattle.std.proofs.lemmas.Bool.{leb-false, and_parts}
 use Rattle.qpu_machine.specs.declared.start.Start.{Start as StartOf}
 use Rattle.qpu_job.specs.declared.job.Value.{Value}
 use Rattle.qpu_job.specs.declared.job.TheConstants.{MOST_PROGRAMS}
-use Rattle.qpu_job.specs.declared.above.TheConstants.{WORD_BYTES}
+use Rattle.qpu_word.specs.declared.code.TheConstants.{WORD_BYTES}
 use Rattle.qpu_job.specs.declared.fault.JobFault.{JobFault}
 use Rattle.qpu_job.specs.declared.fault.JobFault.TheVariants as fault
 use Rattle.qpu_job.specs.declared.cause.Cause.{Cause}

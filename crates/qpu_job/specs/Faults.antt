@@ -2,8 +2,8 @@
 -- that does. This project's own.
 use Rattle.std.specs.Prelude.{ℕ, ◌+◌, ◌/◌, ◌%◌, ◌==◌, ◌||◌, Bool, true, false, not, nat_lt, nat_le, List, [], ◌∷◌, length, Option, find, is_some, is_none}
 use Rattle.std.specs.List.{list_any}
-use Rattle.qpu_job.specs.declared.job.TheConstants.{MOST_MEMORY, MOST_LIMIT, MOST_PROGRAMS, PROCESSORS}
-use Rattle.qpu_job.specs.declared.above.TheConstants.{WORD_BYTES}
+use Rattle.qpu_job.specs.declared.job.TheConstants.{MOST_MEMORY, MOST_PROGRAMS}
+use Rattle.qpu_word.specs.declared.code.TheConstants.{WORD_BYTES, PROCESSORS, LIMIT_MOST}
 use Rattle.qpu_job.specs.declared.fault.JobFault.{JobFault}
 use Rattle.qpu_job.specs.declared.fault.JobFault.TheVariants as fault
 use Rattle.qpu_job.specs.declared.cause.Cause.{Cause}
@@ -29,7 +29,7 @@ has_wrong_size (Memory words) = (words == 0) || nat_lt MOST_MEMORY words
 has_wrong_size shape = false
 
 unfoldable pub is_too_much : Above → Shape → Bool
-is_too_much above (Limit limit) = nat_lt MOST_LIMIT limit
+is_too_much above (Limit limit) = nat_lt LIMIT_MOST limit
 is_too_much above (Program name) = nat_le MOST_PROGRAMS (length above.plan.programs)
 is_too_much above shape = false
 

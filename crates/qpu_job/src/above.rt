@@ -11,10 +11,8 @@ use crate::shape::Shape;
 use crate::stage::Stage;
 use qpu_machine::Start;
 use qpu_word::NoMemory;
+use qpu_word::code::WORD_BYTES;
 use std::alloc::Global;
-
-/// Bytes of a word.
-pub(crate) const WORD_BYTES: u32 = 4;
 
 /// What stands above a line.
 #[derive(Debug, Drop)]

@@ -6,12 +6,13 @@ ghost use Rattle.qpu_job.specs.Shapes.{said};
 ghost use Rattle.qpu_job.specs.Above.{above_of};
 ghost use Rattle.qpu_job.specs.Faults.{stands, has_wrong_size, is_too_much, is_twice, is_no_processor, is_no_program, is_no_place, first_cause};
 
-use crate::above::{Above, WORD_BYTES, index_of};
+use crate::above::{Above, index_of};
 use crate::cause::Cause;
-use crate::job::{MOST_LIMIT, MOST_MEMORY, MOST_PROGRAMS, PROCESSORS};
+use crate::job::{MOST_MEMORY, MOST_PROGRAMS};
 use crate::shape::Shape;
 use crate::stage::Stage;
 use qpu_machine::Start;
+use qpu_word::code::{LIMIT_MOST, PROCESSORS, WORD_BYTES};
 
 impl Above {
     /// Why a line of this shape fails: the first of the causes that hold.
@@ -48,7 +49,7 @@ impl Above {
         ensures { result ≡ is_too_much (above_of self.now) (said shape.now) }
     {
         match shape {
-            Shape::Limit(limit) => MOST_LIMIT < *limit,
+            Shape::Limit(limit) => LIMIT_MOST < *limit,
             Shape::Program(_) => MOST_PROGRAMS <= self.job.programs.len(),
             _ => false,
         }

@@ -11,7 +11,7 @@ ghost use Rattle.qpu_local.specs.Views.{coming_place};
 use crate::flagging::branches;
 use crate::processor::Processor;
 use crate::sending::link;
-use qpu_word::code::{BRANCH_SLOTS, END_SLOTS, WORD_BYTES};
+use qpu_word::code::{BRANCH_SLOTS, END_SLOTS, INSTRUCTION_BYTES};
 use qpu_word::{Fields, Halt, Program, Rest};
 
 /// Where control stands after a word.
@@ -110,18 +110,18 @@ impl Processor {
             return false;
         }
         let target = self.target(f);
-        !(target % WORD_BYTES == 0 && program.is_link(target / WORD_BYTES))
+        !(target % INSTRUCTION_BYTES == 0 && program.is_link(target / INSTRUCTION_BYTES))
     }
 
     /// What is in progress after a branch.
     fn rest_after_branch(&self, f: &Fields) -> Rest
         requires fit { IsFit f.now }
         requires place { self.now.place < 4096 }
-        ensures rest { result ≡ (if is_taken f.now self.now then To BRANCH_SLOTS (target_of f.now self.now / WORD_BYTES) else Straight) }
+        ensures rest { result ≡ (if is_taken f.now self.now then To BRANCH_SLOTS (target_of f.now self.now / INSTRUCTION_BYTES) else Straight) }
         ensures coming { coming_place result < 2 ^ 29 }
     {
         if self.is_taken(f) {
-            Rest::To(BRANCH_SLOTS, self.target(f) / WORD_BYTES)
+            Rest::To(BRANCH_SLOTS, self.target(f) / INSTRUCTION_BYTES)
         } else {
             Rest::Straight
         }

@@ -3,11 +3,11 @@ ghost use Rattle.qpu_word.specs.Operands.{row_of};
 ghost use Rattle.qpu_word.specs.Processor.{opening_book, opening_processor};
 ghost use Rattle.qpu_word.specs.Books.{IsSoundBook};
 
-use qpu_word::{Book, Flags, Halt, LANES, Lanes, Rest};
+use qpu_word::{Book, Flags, Halt, LANES, Lanes, Rest, code};
 use std::marker::Model;
 
 /// Rows of a file.
-const ROWS: usize = 32;
+const ROWS: usize = code::ROWS as usize;
 
 /// Accumulators, r0 to r5.
 const ACCUMULATORS: usize = 6;

@@ -11,7 +11,7 @@ use crate::flagging::holds_in;
 use crate::processor::Processor;
 use crate::sending::sixteen;
 use qpu_pack::pack_into;
-use qpu_word::code::{ROWS, WRITE_R0, WRITE_R3, WRITE_R5};
+use qpu_word::code::{COND_ALWAYS, ROWS, WRITE_R0, WRITE_R3, WRITE_R5};
 use qpu_word::{Fields, Flags, Ins, LANES, Lanes};
 
 /// The accumulator that TMU loads write, r4 of the manual.
@@ -21,10 +21,7 @@ const LOADED: usize = 4;
 const REPLICATED: usize = 5;
 
 /// Lanes of a group whose first one goes to all of it.
-const GROUP: usize = 4;
-
-/// The condition that always holds.
-const ALWAYS: u32 = 1;
+const TURN: usize = 4;
 
 /// The packing that leaves values as they are.
 const WHOLE: u32 = 0;
@@ -68,7 +65,7 @@ fn replicated_in(in_b: bool, values: &Lanes) -> Lanes
 {
     let mut out = [0; LANES];
     for i in 0..LANES {
-        out[i] = pick(in_b, values.v[0], values.v[i / GROUP * GROUP]);
+        out[i] = pick(in_b, values.v[0], values.v[i / TURN * TURN]);
     }
     Lanes { v: out }
 }
@@ -77,7 +74,7 @@ fn replicated_in(in_b: bool, values: &Lanes) -> Lanes
 pub fn cond_of(f: &Fields, cond: u32) -> u32
     ensures { result ≡ write_cond f.now cond }
 {
-    if f.is_branch() { ALWAYS } else { cond }
+    if f.is_branch() { COND_ALWAYS } else { cond }
 }
 
 impl Processor {
@@ -103,7 +100,7 @@ impl Processor {
     {
         sixteen(values);
         let mode = pack_mode_of(f, in_b);
-        if cond == ALWAYS && mode == WHOLE {
+        if cond == COND_ALWAYS && mode == WHOLE {
             return *values;
         }
         left_of(cond, &self.flags(), mode, &self.old(in_b, address), values)

@@ -1,5 +1,6 @@
 -- What a step of one processor leaves alone of what is pending.
 use Rattle.std.proofs.Common.{◌≡◌, ◌≢◌, ◌<◌, ℕ, Bool, true, false, List, [], length, map, Option, Some, None, refl, ap, sym, ◌∙◌, subst, length-set, if◌then◌else◌}
+use Rattle.qpu_word.specs.declared.code.TheConstants.{TMU_UNITS}
 use Rattle.std.proofs.lemmas.List.{get_or-set_same, get_or-set_other}
 use Rattle.std.specs.Prelude.{◌==◌, nat_lt, slice_index, slice_index_or, slice_set, option_map}
 use Rattle.qpu_word.specs.declared.word.Fields.{Fields}
@@ -12,7 +13,7 @@ use Rattle.qpu_shared.specs.declared.pending.Pending.{Pending}
 use Rattle.qpu_shared.specs.declared.starts.Starts.{Starts}
 use Rattle.qpu_shared.specs.SharedState.{SharedState, nothing_pending}
 use Rattle.qpu_shared.specs.Instruction.{pending_of, looks_of, shared_after}
-use Rattle.qpu_shared.specs.Moves.{tmu_units, unit_looks, fetched, after_load, after_store, after_fetch, load_moved, store_moved, fetch_moved}
+use Rattle.qpu_shared.specs.Moves.{unit_looks, fetched, after_load, after_store, after_fetch, load_moved, store_moved, fetch_moved}
 use Rattle.qpu_machine.proofs.KeptLooks.{fetched_length}
 
 -- what is left where a move is made
@@ -130,7 +131,7 @@ fetch_looks : (h : SharedState) (q unit u : ℕ) (left : SharedState) (looks : O
     → after_fetch h q unit looks ≡ Some left → q < length h.pending → length (queue_of (pending_of left q).looks u) ≡ length (queue_of (pending_of h q).looks u)
 fetch_looks h q unit u left None is e there = absurd (none_left left e)
 fetch_looks h q unit u left (Some new) is e there =
-    let long : length new ≡ length (queue_of (pending_of h q).looks unit) = long_by (nat_lt unit tmu_units) h.memory (looks_of (pending_of h q) unit) new is in
+    let long : length new ≡ length (queue_of (pending_of h q).looks unit) = long_by (nat_lt unit TMU_UNITS) h.memory (looks_of (pending_of h q) unit) new is in
     left_is (λ (s : SharedState). length (queue_of (pending_of s q).looks u) ≡ length (queue_of (pending_of h q).looks u)) _ left e
     (ap (λ (o : Pending). length (queue_of o.looks u)) (replaced h.pending q (record (pending_of h q) { looks = with_queue (pending_of h q).looks unit new }) there)
     ∙ queue_long (pending_of h q).looks unit u new long)

@@ -1,12 +1,12 @@
 -- What a machine keeps of each processor that goes on: a path of its program to where it stands.
 -- This project's own.
 use Rattle.std.specs.Prelude.{◌≡◌, ◌≢◌, ◌≤◌, ◌+◌, ℕ, List, length, is_some}
+use Rattle.qpu_word.specs.declared.code.TheConstants.{LOOK_UPS}
 use Rattle.qpu_word.specs.declared.state.Halt.TheVariants.{Going}
 use Rattle.qpu_word.specs.Processor.{ProcessorState}
 use Rattle.qpu_tmu.specs.Looks.{LookupsState}
 use Rattle.qpu_shared.specs.SharedState.{SharedState}
 use Rattle.qpu_shared.specs.Instruction.{pending_of}
-use Rattle.qpu_hazard.specs.declared.demands.TheConstants.{LOOKS_MOST}
 use Rattle.qpu_hazard.specs.Paths.{IsPath, flags_of, carry_of, looks_of}
 use Rattle.qpu_hazard.specs.Standing.{ProcessorStands}
 
@@ -31,7 +31,7 @@ IsKeptAlone code p = (looks : LookupsState) × IsKept code p looks
 
 -- no unit has more look-ups outstanding than it may
 abbrev pub HasFewLooks : LookupsState → Type 0
-HasFewLooks looks = (length looks.looks0 ≤ LOOKS_MOST) × (length looks.looks1 ≤ LOOKS_MOST)
+HasFewLooks looks = (length looks.looks0 ≤ LOOK_UPS) × (length looks.looks1 ≤ LOOK_UPS)
 
 -- what a word of processor q keeps, whatever became of it: the number, a count that grows by one at
 -- most, where the processor stands, few look-ups, what others have pending, and for how many there

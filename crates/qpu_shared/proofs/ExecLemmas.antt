@@ -6,7 +6,7 @@ use Rattle.qpu_word.specs.declared.setup.Book.{Book}
 use Rattle.qpu_word.specs.declared.traffic.Ins.{Ins}
 use Rattle.qpu_word.specs.declared.traffic.Outs.{Outs}
 use Rattle.qpu_word.specs.declared.fault.FaultKind.{FaultKind}
-use Rattle.qpu_word.specs.declared.code.TheConstants.{NOWHERE, WRITE_TMU1_S}
+use Rattle.qpu_word.specs.declared.code.TheConstants.{NOWHERE, WRITE_TMU1_S, LOOK_UPS}
 use Rattle.qpu_word.specs.Words.{fields_of, is_branch}
 use Rattle.qpu_word.specs.Processor.{ProcessorState}
 use Rattle.qpu_word.specs.Instruction.{outs_from, outs_of, look_address, sent_to, as_lanes, then_after, branch_fails, done}
@@ -17,7 +17,7 @@ use Rattle.qpu_shared.specs.declared.starts.Starts.{Starts}
 use Rattle.qpu_shared.specs.SharedState.{SharedState}
 use Rattle.qpu_shared.specs.Instruction.{Done, Faults, outcome_under, awaits, causes_of, first_cause, ins_of, after_reads, after_writes, shared_after, instruction_result, looks_of}
 use Rattle.qpu_shared.specs.Free.{IsFree}
-use Rattle.qpu_shared.specs.Exec.{look_ups, HasRoom}
+use Rattle.qpu_shared.specs.Exec.{HasRoom}
 use Rattle.qpu_shared.proofs.LocalLemmas.{nothing_nowhere}
 
 -- where no cause holds, nothing is awaited
@@ -52,7 +52,7 @@ look_somewhere f add mul some is =
 
 -- and the unit to which it goes has room
 pub room_found : (f : Fields) (add mul : List ℕ) (pending : Pending) → HasRoom f pending → IsSome (outs_from f add mul).look
-    → length (looks_of pending (outs_from f add mul).look_unit) < look_ups
+    → length (looks_of pending (outs_from f add mul).look_unit) < LOOK_UPS
 unfolding outs_from
 room_found f add mul pending room some = room (look_somewhere f add mul some)
 

@@ -20,7 +20,7 @@ use Rattle.qpu_word.specs.Words.{fields_of, reads, reads_a, reads_b, writes, wri
 use Rattle.qpu_word.specs.Setups.{take_vector, put_vector}
 use Rattle.qpu_word.specs.Processor.{ProcessorState}
 use Rattle.qpu_word.specs.Instruction.{outs_of, after_setups, after_uniform_to, then_after, branch_fails, done, is_link_point}
-use Rattle.qpu_sync.specs.Sync.{is_holder}
+use Rattle.qpu_sync.specs.Sync.{acquired, released, raised, lowered}
 use Rattle.qpu_vpm.specs.Cells.{vector_cells}
 use Rattle.qpu_vpm.specs.Values.{vpm_values, with_cells}
 use Rattle.qpu_dma.specs.declared.transfer.Transfer.{Transfer}
@@ -180,21 +180,24 @@ vpm_after None writes vpm = vpm
 vpm_after (Some values) None vpm = vpm
 vpm_after (Some values) (Some w) vpm = with_cells vpm (vector_cells w.setup w.done) values.v
 
--- the mutex after an acquire, where there is one
-abbrev pub acquired : Fields → ℕ → Option ℕ → Option ℕ
-acquired f q mutex = if reads f READ_MUTEX then Some q else mutex
+-- the holder of the mutex after a read that acquires it, where there is one
+abbrev pub after_acquire : Fields → ℕ → Option ℕ → Option ℕ
+after_acquire f q mutex = if reads f READ_MUTEX then acquired mutex q else mutex
 
--- the mutex after an acquire and then a release; a release by another than the holder does nothing
+-- the holder of the mutex after a write that releases it, where there is one
+abbrev pub after_release : Fields → ℕ → Option ℕ → Option ℕ
+after_release f q mutex = if writes f WRITE_MUTEX then released mutex q else mutex
+
+-- the holder of the mutex after an acquire and then a release
 unfoldable pub mutex_after : Fields → ℕ → Option ℕ → Option ℕ
-mutex_after f q mutex =
-    if writes f WRITE_MUTEX && is_holder (acquired f q mutex) q then None else acquired f q mutex
+mutex_after f q mutex = after_release f q (after_acquire f q mutex)
 
 -- the counts after a semaphore word
 unfoldable pub semaphores_after : Fields → List ℕ → List ℕ
 semaphores_after f counts =
     if not (is_semaphore f) then counts
-    else if is_down f then slice_set counts f.number (slice_index counts f.number - 1)
-    else slice_set counts f.number (slice_index counts f.number + 1)
+    else if is_down f then lowered counts f.number
+    else raised counts f.number
 
 -- the transfer that starts, or the one that was pending
 abbrev pub or_pending : Option Transfer → Option Transfer → Option Transfer

@@ -6,10 +6,10 @@ ghost use Rattle.qpu_word.specs.Books.{IsSoundBook};
 ghost use Rattle.qpu_shared.specs.Views.{IsFitting};
 ghost use Rattle.qpu_shared.specs.Instruction.{after_vpm_write, started, load_started, store_started, word_indexes, look_issued, after_writes};
 
-use crate::reading::WORD_BYTES;
 use crate::shared::Shared;
 use crate::starts::Starts;
 use qpu_dma::{LoadPlan, StorePlan, Transfer};
+use qpu_word::code::WORD_BYTES;
 use qpu_word::{Book, FaultKind, LANES, Lanes, Outs};
 
 /// The book after a VPM write, where there is one; `NoSetup` where no write setup was given.

@@ -48,7 +48,7 @@ fn is_want_of(fault: &CheckFault) -> bool
 }
 
 /// Judges words over all paths, and keeps nothing of them.
-#[tactic(auto, unfolding(qpu_flow::specs::Code::numbers_of))]
+#[tactic(auto, unfolding(qpu_word::specs::Words::numbers_of))]
 fn judged(alloc: Global, words: &[Word]) -> Result<(), CheckFault>
     requires { length words.now ≤ MOST_WORDS }
     ensures inside { OnOk result (AllInProfile (map (λ word. word.0) words.now)) }

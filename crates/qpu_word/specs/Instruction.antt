@@ -17,7 +17,7 @@ use Rattle.qpu_word.specs.declared.operation.AddOp.{AddOp}
 use Rattle.qpu_word.specs.declared.operation.MulOp.{MulOp}
 use Rattle.qpu_word.specs.declared.fault.FaultKind.{FaultKind}
 use Rattle.qpu_word.specs.declared.fault.FaultKind.TheVariants.{Branch}
-use Rattle.qpu_word.specs.declared.code.TheConstants.{KIND_LOAD, KIND_LOAD_SIGNED, NOWHERE, BRANCH_SLOTS, END_SLOTS, WORD_BYTES, WRITE_HOST_INT, WRITE_UNIFORMS_ADDRESS, WRITE_VPM, WRITE_VPM_SETUP, WRITE_DMA_ADDRESS, WRITE_TMU0_S, WRITE_TMU1_S}
+use Rattle.qpu_word.specs.declared.code.TheConstants.{KIND_LOAD, KIND_LOAD_SIGNED, NOWHERE, BRANCH_SLOTS, END_SLOTS, INSTRUCTION_BYTES, WRITE_HOST_INT, WRITE_UNIFORMS_ADDRESS, WRITE_VPM, WRITE_VPM_SETUP, WRITE_DMA_ADDRESS, WRITE_TMU0_S, WRITE_TMU1_S}
 use Rattle.qpu_word.specs.Lanes.{lanes, lane, mask}
 use Rattle.qpu_word.specs.Words.{writes_link, field, fields_of, is_unit_word, is_load, is_branch, is_program_end, is_tmu_load, add_active, mul_active, add_writes, mul_writes, is_exchanged, writes, writes_a, writes_b}
 use Rattle.qpu_word.specs.Operations.{low32, add_result, add_carry, mul_result, add_op, mul_op}
@@ -70,7 +70,7 @@ after_slots place = place + 1 + BRANCH_SLOTS
 
 -- the link of a branch at a place: the byte address after its slots
 abbrev pub link_of : ℕ → ℕ
-link_of place = WORD_BYTES * after_slots place
+link_of place = INSTRUCTION_BYTES * after_slots place
 
 -- the values of a load immediate, or the link of a branch at a place
 unfoldable pub plain_values : Fields → ℕ → List ℕ
@@ -167,7 +167,7 @@ target_of f p =
 unfoldable pub branch_fails : (ℕ → Bool) → Fields → ProcessorState → Bool
 branch_fails is_link f p =
     is_taken f p && (f.reg == 1)
-    && not ((target_of f p % WORD_BYTES == 0) && is_link (target_of f p / WORD_BYTES))
+    && not ((target_of f p % INSTRUCTION_BYTES == 0) && is_link (target_of f p / INSTRUCTION_BYTES))
 
 -- what is in progress one word later
 abbrev pub rest_later : Rest → Rest
@@ -178,7 +178,7 @@ rest_later (To n t) = if nat_lt n 2 then Straight else To (n - 1) t
 -- what is in progress after a word; a branch or program end replaces what was
 unfoldable pub rest_after : Fields → ProcessorState → Rest
 rest_after f p =
-    if is_branch f then (if is_taken f p then To BRANCH_SLOTS (target_of f p / WORD_BYTES) else Straight)
+    if is_branch f then (if is_taken f p then To BRANCH_SLOTS (target_of f p / INSTRUCTION_BYTES) else Straight)
     else if is_program_end f then Ending END_SLOTS
     else rest_later p.rest
 
@@ -241,6 +241,10 @@ look_address f =
     else if add_writes f && is_look_address f.waddr_add then f.waddr_add
     else NOWHERE
 
+-- the TMU unit to which a look-up is issued; 0 where none is
+abbrev pub look_unit_of : Fields → ℕ
+look_unit_of f = if look_address f == WRITE_TMU1_S then 1 else 0
+
 -- what an instruction sends to the shared parts, the setups and the uniforms address, from what the
 -- units send
 unfoldable pub outs_from : Fields → List ℕ → List ℕ → Outs
@@ -251,7 +255,7 @@ outs_from f add mul = record {
   uniform_to = first_lane (sent_to f add mul WRITE_UNIFORMS_ADDRESS);
   load_at = first_lane (sent_to_a f add mul WRITE_DMA_ADDRESS);
   store_at = first_lane (sent_to_b f add mul WRITE_DMA_ADDRESS);
-  look_unit = (if look_address f == WRITE_TMU1_S then 1 else 0);
+  look_unit = look_unit_of f;
   look = as_lanes (sent_to f add mul (look_address f));
 }
 

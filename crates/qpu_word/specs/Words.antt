@@ -1,11 +1,20 @@
 -- VideoCore IV 3D Architecture Reference Guide, "QPU Instruction Encoding" and "QPU Register
 -- Address Map": the fields of an instruction word, and which units act. The profile, its faults,
 -- and local and shared words are this project's own.
-use Rattle.std.specs.Prelude.{◌≡◌, if◌then◌else◌, ℕ, ◌+◌, ◌/◌, ◌%◌, ◌^◌, ◌==◌, ◌&&◌, ◌||◌, Bool, not, nat_lt, nat_le, List, [], ◌∷◌, Option, None, find}
+use Rattle.std.specs.Prelude.{◌≡◌, if◌then◌else◌, ℕ, ◌+◌, ◌/◌, ◌%◌, ◌^◌, ◌==◌, ◌&&◌, ◌||◌, Bool, not, nat_lt, nat_le, List, [], ◌∷◌, Option, None, find, map}
+use Rattle.qpu_word.specs.declared.word.Word.{Word}
 use Rattle.qpu_word.specs.declared.word.Fields.{Fields}
 use Rattle.qpu_word.specs.declared.fault.WordFault.{WordFault}
 use Rattle.qpu_word.specs.declared.fault.WordFault.TheVariants.{Signal, FloatOp, ReservedOp, ReadAddress, WriteAddress, Packing, BranchCond, LoadKind, Rotation, SemaphoreTarget, NoSource}
 use Rattle.qpu_word.specs.declared.code.TheConstants.{SIGNAL_NONE, SIGNAL_PROGRAM_END, SIGNAL_LOAD_TMU0, SIGNAL_LOAD_TMU1, SIGNAL_SMALL_IMMEDIATE, SIGNAL_LOAD_IMMEDIATE, SIGNAL_BRANCH, KIND_LOAD, KIND_LOAD_SIGNED, KIND_LOAD_UNSIGNED, KIND_SEMAPHORE, MUX_FILE_A, MUX_FILE_B, ROWS, NOWHERE, READ_UNIFORM, READ_NUMBER, READ_VPM, READ_DMA_BUSY, READ_DMA_WAIT, READ_MUTEX, WRITE_R3, WRITE_R5, WRITE_HOST_INT, WRITE_UNIFORMS_ADDRESS, WRITE_VPM, WRITE_VPM_SETUP, WRITE_DMA_ADDRESS, WRITE_MUTEX, WRITE_TMU0_S, WRITE_TMU1_S, ROTATE_BY_R5}
+
+-- 1 where a test holds, else 0
+abbrev pub one_if : Bool → ℕ
+one_if test = if test then 1 else 0
+
+-- the numbers of words
+unfoldable pub numbers_of : List Word → List ℕ
+numbers_of words = map (λ (word : Word). word.0) words
 
 -- bits low to low + n - 1 of a word
 abbrev pub field : ℕ → ℕ → ℕ → ℕ
