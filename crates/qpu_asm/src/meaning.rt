@@ -2,7 +2,7 @@
 ghost use Rattle.std.specs.Prelude.{◌≡◌, Some};
 ghost use Rattle.qpu_asm.specs.declared.piece.Core.TheVariants.{Label};
 ghost use Rattle.qpu_asm.specs.Roles.{op_in_add as add_code_of, op_in_mul as mul_code_of};
-ghost use Rattle.qpu_asm.specs.Meanings.{condition_in, branch_condition_in, sets_flags, sets_in, pack_in, unpack_in, place_of, is_nowhere, number_of, with_unpack, operand_of_core, operand_of, condition_at, unit_of, mul_in, unit_does, unit_sets, rotation_of, signal_part, signal_in, address_a, address_b, reads_by, other_a_part, other_b_part, first_told, unless, units_of_parts, write_in, also_in, load_of_part, distance, row_of, row_part, link_in, branch_of_part, step, meaning};
+ghost use Rattle.qpu_asm.specs.Meanings.{condition_in, branch_condition_in, sets_flags, sets_in, pack_in, unpack_in, place_of, is_nowhere, number_of, with_unpack, operand_of_core, operand_of, condition_at, unit_of, mul_in, unit_does, unit_sets, rotation_of, signal_part, signal_in, address_a, address_b, reads_by, other_a_part, other_b_part, first_told, unless, units_of_parts, write_in, also_in, load_of_part, distance, target_row, row_part, link_in, branch_of_part, step, meaning};
 
 use crate::mark::code_of;
 use crate::marking::{is_r5, is_set_flags, source_in, target_place, unpack_name};
@@ -421,7 +421,7 @@ fn distance(relative: bool, at: u32, core: Core) -> u32
 
 /// The row of file A that a name stands for.
 fn row_of(core: Core) -> Option<u32>
-    ensures { result ≡ row_of core }
+    ensures { result ≡ target_row core }
 {
     match core {
         Core::Name(Name::Register(Register::RowA(row))) => Some(row),

@@ -14,8 +14,8 @@ use Rattle.qpu_word.specs.declared.code.TheConstants.{BRANCH_ALWAYS}
 use Rattle.qpu_flow.specs.declared.slots.Slots.{Slots}
 use Rattle.qpu_flow.specs.declared.slots.Successors.{Successors}
 use Rattle.qpu_flow.specs.declared.control.Control.{Control}
-use Rattle.qpu_flow.specs.declared.control.Rest.{Rest}
-use Rattle.qpu_flow.specs.declared.control.Rest.TheVariants.{Straight, Ending, To}
+use Rattle.qpu_flow.specs.declared.control.Progress.{Progress}
+use Rattle.qpu_flow.specs.declared.control.Progress.TheVariants.{Straight, Ending, To}
 use Rattle.qpu_flow.specs.declared.control.Target.{Target}
 use Rattle.qpu_flow.specs.declared.control.Target.TheVariants.{Byte, AnyLink as ToAnyLink}
 use Rattle.qpu_flow.specs.declared.control.Next.{Next}
@@ -29,8 +29,8 @@ abbrev pub is_always : Fields → Bool
 is_always f = f.cond_br == BRANCH_ALWAYS
 
 -- a branch that adds a row of file A to its target
-abbrev pub is_register : Fields → Bool
-is_register f = f.reg == 1
+abbrev pub is_register_branch : Fields → Bool
+is_register_branch f = f.reg == 1
 
 -- the target of a branch at a place that adds no row, in bytes
 unfoldable pub plain_target : ℕ → Fields → ℕ
@@ -80,8 +80,8 @@ straight_on at = record { ahead = Some (at + 1); jump = None; any_link = false }
 abbrev pub after_branch : List ℕ → ℕ → ℕ → Successors
 after_branch code branch at = record {
   ahead = (if is_always (fields_at code branch) then None else Some (at + 1));
-  jump = (if is_register (fields_at code branch) then None else Some (plain_target branch (fields_at code branch)));
-  any_link = is_register (fields_at code branch);
+  jump = (if is_register_branch (fields_at code branch) then None else Some (plain_target branch (fields_at code branch)));
+  any_link = is_register_branch (fields_at code branch);
 }
 
 -- what follows the last slot of a branch or program end
@@ -123,7 +123,7 @@ leads_out code next = is_past code next.ahead || is_no_word code next.jump
 -- control with its choices made
 
 -- control goes on to a place, where a word stands there
-abbrev pub going : List ℕ → ℕ → Rest → Next
+abbrev pub going : List ℕ → ℕ → Progress → Next
 going code place rest = if nat_lt place (length code) then At (record { place = place; rest = rest }) else Outside
 
 -- control arrives at a target
@@ -133,7 +133,7 @@ arrived code (Byte byte) =
     if is_word_byte code byte then At (record { place = byte / INSTRUCTION_BYTES; rest = Straight }) else Outside
 
 -- control after a word that is no branch and no program end
-abbrev pub gone_on : List ℕ → Rest → ℕ → Next
+abbrev pub gone_on : List ℕ → Progress → ℕ → Next
 gone_on code Straight at = going code (at + 1) Straight
 gone_on code (Ending slots) at = if nat_lt slots 2 then Ended else going code (at + 1) (Ending (slots - 1))
 gone_on code (To slots target) at =
@@ -141,10 +141,10 @@ gone_on code (To slots target) at =
 
 -- where a taken branch at a place goes
 abbrev pub target_from : ℕ → Fields → Target
-target_from at f = if is_register f then ToAnyLink else Byte (plain_target at f)
+target_from at f = if is_register_branch f then ToAnyLink else Byte (plain_target at f)
 
 -- what is in progress after a branch; one that isn't taken goes straight on
-abbrev pub branched : ℕ → Fields → Bool → Rest
+abbrev pub branched : ℕ → Fields → Bool → Progress
 branched at f taken = if is_always f || taken then To BRANCH_SLOTS (target_from at f) else Straight
 
 -- control after the word at its place

@@ -12,7 +12,7 @@ use Rattle.qpu_flow.specs.Code.{fields_at}
 use Rattle.qpu_hazard.specs.declared.breaks.Break.{Break}
 use Rattle.qpu_hazard.specs.Demands.{uniform_conflict, actions, look_place, looks_made, looks_taken, tests_zn, tests_carry, uses_r4}
 use Rattle.qpu_hazard.specs.Rules.{in_slot, h4, h8, h9}
-use Rattle.qpu_hazard.specs.Paths.{IsPath, IsClean, follows, last_of, earlier_of, slots_of, loaded_of, flags_of, carry_of, looks_of}
+use Rattle.qpu_hazard.specs.Paths.{IsPath, IsClean, follows, last_of, earlier_of, slots_of, r4_defined, flags_defined, c_defined, outstanding_looks}
 use Rattle.qpu_hazard.specs.Holds.{LooksHold, WordHolds}
 use Rattle.qpu_hazard.proofs.Basics.{or_left, or_right, and_not, when_empty}
 use Rattle.qpu_hazard.proofs.RuleLemmas.{BreaksNothing, few_looks}
@@ -123,18 +123,18 @@ few_actions : (f : Fields) (at : ℕ) → h8 f at ≡ [] → actions f ≤ 1
 few_actions f at none = not_above (actions f) (when_empty _ 8 at none)
 
 looks_hold : (code t : List ℕ) (a unit : ℕ) → unit < 2 → actions (fields_at code a) ≤ 1
-    → (looks_of code unit t + looks_made (fields_at code a) unit ≤ 4) × (looks_taken (fields_at code a) unit ≤ looks_of code unit t + looks_made (fields_at code a) unit)
+    → (outstanding_looks code unit t + looks_made (fields_at code a) unit ≤ 4) × (looks_taken (fields_at code a) unit ≤ outstanding_looks code unit t + looks_made (fields_at code a) unit)
     → LooksHold code t a unit
 looks_hold code t a unit low few held =
-    let from = looks_from (fields_at code a) unit (looks_of code unit t) low few held in
+    let from = looks_from (fields_at code a) unit (outstanding_looks code unit t) low few held in
     record { room = from.0; one_if = from.1; most = from.2 }
 
 pub word_holds : (code t : List ℕ) (a : ℕ) → IsClean code → IsPath code t → IsTrue (follows code t a) → WordHolds code t a
 word_holds code t a clean is_path after =
-    let rules : BreaksNothing code (last_of t) (earlier_of t) (slots_of code t) (loaded_of code t) (flags_of code t) (carry_of code t) (looks_of code 0 t) (looks_of code 1 t) a =
+    let rules : BreaksNothing code (last_of t) (earlier_of t) (slots_of code t) (r4_defined code t) (flags_defined code t) (c_defined code t) (outstanding_looks code 0 t) (outstanding_looks code 1 t) a =
     rules_kept code t a (clean (a ∷ t) (is_path, clean t is_path, after)) in
     let few : actions (fields_at code a) ≤ 1 = few_actions (fields_at code a) a rules.rule_8 in
-    let defined = defined_from (uses_r4 (fields_at code a)) (loaded_of code t) (tests_zn (fields_at code a)) (flags_of code t) (tests_carry (fields_at code a)) (carry_of code t) (when_empty _ 12 a rules.rule_12) in
+    let defined = defined_from (uses_r4 (fields_at code a)) (r4_defined code t) (tests_zn (fields_at code a)) (flags_defined code t) (tests_carry (fields_at code a)) (c_defined code t) (when_empty _ 12 a rules.rule_12) in
     record {
       there = there code t a after;
       uniforms = record {
@@ -143,7 +143,7 @@ word_holds code t a clean is_path after =
       };
       slots = slots_from (slots_of code t) (fields_at code a) rules.rule_9;
       defined = record { r4 = defined.0; flags = defined.1; carry = defined.2 };
-      looks_0 = looks_hold code t a 0 (omega arith) few (few_looks 0 (looks_of code 0 t) (fields_at code a) a rules.rule_13_0);
-      looks_1 = looks_hold code t a 1 (omega arith) few (few_looks 1 (looks_of code 1 t) (fields_at code a) a rules.rule_13_1);
+      looks_0 = looks_hold code t a 0 (omega arith) few (few_looks 0 (outstanding_looks code 0 t) (fields_at code a) a rules.rule_13_0);
+      looks_1 = looks_hold code t a 1 (omega arith) few (few_looks 1 (outstanding_looks code 1 t) (fields_at code a) a rules.rule_13_1);
       actions = few;
     }

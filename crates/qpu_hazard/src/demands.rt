@@ -176,7 +176,7 @@ pub(crate) fn actions(f: &Fields) -> u32
 {
     one(f.add_writes() && is_look_address(f.waddr_add))
         + one(f.mul_writes() && is_look_address(f.waddr_mul))
-        + one(f.takes_words())
+        + one(f.has_tmu_load())
         + one(f.reads_a(READ_MUTEX))
         + one(f.reads_b(READ_MUTEX))
         + one(f.is_semaphore())
@@ -280,7 +280,7 @@ pub(crate) fn uses_r4(f: &Fields) -> bool
 pub(crate) fn loads_r4(f: &Fields) -> bool
     ensures { result ≡ loads_r4 f.now }
 {
-    f.takes_words()
+    f.has_tmu_load()
 }
 
 /// The address whose writes are look-ups of a unit.

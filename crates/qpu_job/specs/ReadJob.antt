@@ -16,8 +16,8 @@ differ same (x ∷ xs) = not (list_any (same x) xs) && differ same xs
 abbrev pub names : Plan → List (List ℕ)
 names plan = map (λ program. program.name) plan.programs
 
-abbrev pub started : Plan → List ℕ
-started plan = map (λ start. start.q) plan.starts
+abbrev pub started_processors : Plan → List ℕ
+started_processors plan = map (λ start. start.q) plan.starts
 
 -- a program's name is one, and its text and line are within the longest text
 pub record IsProgram (program : Program) : Type 0 where
@@ -40,4 +40,4 @@ pub record IsReadJob (plan : Plan) : Type 0 where
   pub programs : All IsProgram plan.programs
   pub names : differ bytes_eq (names plan) ≡ true
   pub starts : All (IsStart (length plan.programs)) plan.starts
-  pub processors : differ nat_eq (started plan) ≡ true
+  pub processors : differ nat_eq (started_processors plan) ≡ true

@@ -10,7 +10,6 @@
 
 mod above;
 mod bytes;
-mod cause;
 mod checking;
 mod code;
 mod fault;
@@ -21,6 +20,7 @@ mod line;
 mod making;
 mod number;
 mod reading;
+mod reason;
 mod shape;
 mod stage;
 mod word;

@@ -16,7 +16,7 @@ use qpu_word::{Fields, Halt, Program, Rest};
 
 /// Where control stands after a word.
 #[derive(Clone, Copy, Debug)]
-pub struct Next {
+pub struct NextControl {
     /// The place of the next word.
     pub place: u32,
     /// What is in progress there.
@@ -171,7 +171,7 @@ impl Processor {
     }
 
     /// Where control stands after a word.
-    pub(crate) fn next(&self, f: &Fields) -> Next
+    pub(crate) fn next(&self, f: &Fields) -> NextControl
         requires fit { IsFit f.now }
         requires executed { self.now.executed < 1000000 }
         requires place { IsTrue (is_branch f.now) → self.now.place < 4096 }
@@ -181,7 +181,7 @@ impl Processor {
         ensures within { result.place ≤ 2 ^ 29 + self.now.executed + 1 }
         ensures coming { coming_place result.rest < 2 ^ 29 }
     {
-        Next {
+        NextControl {
             place: self.place_after(f),
             rest: self.rest_after(f),
             halt: self.halt_after(f),

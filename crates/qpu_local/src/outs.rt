@@ -41,7 +41,7 @@ fn first_to_a(f: &Fields, sent: &Sent, address: u32) -> Option<u32>
 {
     if !f.writes_a(address) {
         None
-    } else if f.is_exchanged() {
+    } else if f.swaps_writes() {
         Some(sent.mul.v[0])
     } else {
         Some(sent.add.v[0])
@@ -55,7 +55,7 @@ fn first_to_b(f: &Fields, sent: &Sent, address: u32) -> Option<u32>
 {
     if !f.writes_b(address) {
         None
-    } else if f.is_exchanged() {
+    } else if f.swaps_writes() {
         Some(sent.add.v[0])
     } else {
         Some(sent.mul.v[0])

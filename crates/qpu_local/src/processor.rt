@@ -50,11 +50,11 @@ impl Model for Processor {
 
     ghost Value = { ProcessorState };
 
-    ghost use Rattle.qpu_local.specs.Views.{state_of, fields_back, IsSound};
+    ghost use Rattle.qpu_local.specs.Views.{processor_state, fields_back, IsSoundProcessor};
 
-    ghost view = { state_of };
+    ghost view = { processor_state };
 
-    ghost invariant = { IsSound };
+    ghost invariant = { IsSoundProcessor };
 
     ghost inverse = { fields_back };
 }

@@ -1,7 +1,7 @@
 //! What the units leave in the registers.
 ghost use Rattle.std.specs.Prelude.{◌≡◌, ◌≢◌, ℕ, ◌<◌, ◌≤◌, Bool, not, if◌then◌else◌};
 ghost use Rattle.qpu_word.specs.Lanes.{lane};
-ghost use Rattle.qpu_word.specs.Words.{is_exchanged};
+ghost use Rattle.qpu_word.specs.Words.{swaps_writes};
 ghost use Rattle.qpu_word.specs.Fit.{IsFit};
 ghost use Rattle.qpu_word.specs.Operands.{row_of};
 ghost use Rattle.qpu_word.specs.Writing.{pack_mode, left, replicated, old_at, stored, written};
@@ -150,7 +150,7 @@ impl Processor {
         ensures { self.new ≡ put_add f.now values.now.v self.old }
     {
         if f.add_writes() {
-            self.put(f.is_exchanged(), f.waddr_add, values);
+            self.put(f.swaps_writes(), f.waddr_add, values);
         }
     }
 
@@ -160,7 +160,7 @@ impl Processor {
         ensures { self.new ≡ put_mul f.now values.now.v self.old }
     {
         if f.mul_writes() {
-            self.put(!f.is_exchanged(), f.waddr_mul, values);
+            self.put(!f.swaps_writes(), f.waddr_mul, values);
         }
     }
 
@@ -169,7 +169,7 @@ impl Processor {
     pub(crate) fn put_loaded(&mut self, f: &Fields, ins: &Ins)
         ensures { self.new ≡ put_loaded f.now ins.now self.old }
     {
-        if f.takes_words() {
+        if f.has_tmu_load() {
             self.accumulators[LOADED] = ins.loaded.v;
         }
     }

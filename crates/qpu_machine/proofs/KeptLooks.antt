@@ -18,7 +18,7 @@ use Rattle.qpu_tmu.specs.Looks.{LookupsState, queue_of, oldest_words, is_waiting
 use Rattle.qpu_hazard.specs.Demands.{actions, look_place, looks_made, looks_taken}
 use Rattle.qpu_hazard.specs.Paths.{looks_after}
 use Rattle.qpu_shared.specs.declared.pending.Pending.{Pending}
-use Rattle.qpu_shared.specs.declared.starts.Starts.{Starts}
+use Rattle.qpu_shared.specs.declared.starts.Begun.{Begun}
 use Rattle.qpu_shared.specs.Instruction.{looks_of, after_vpm_write, load_started, store_started, word_indexes, look_issued, after_writes, after_take, after_issue, lookups_after}
 use Rattle.qpu_shared.specs.Exec.{HasRoom}
 use Rattle.qpu_shared.proofs.LocalLemmas.{nothing_nowhere}
@@ -163,7 +163,7 @@ made_is f add mul unit low few =
 
 -- what an instruction sends is what starts
 
-pub ok_same : (a b : Starts) → ◌≡◌ {A = Result Starts FaultKind} (Ok a) (Ok b) → a ≡ b
+pub ok_same : (a b : Begun) → ◌≡◌ {A = Result Begun FaultKind} (Ok a) (Ok b) → a ≡ b
 ok_same a b e = cc
 
 -- one step after another came to its end, so both did
@@ -182,7 +182,7 @@ issued_same : (look : Option Lanes) (memory : List ℕ) (issued : Option Lanes) 
 issued_same None memory issued e = ok_look None issued e
 issued_same (Some addresses) memory issued e = issued_by (list_all (λ a. nat_lt (a / 4) (length memory)) addresses.v) (Some (word_indexes addresses)) issued e
 
-pub look_starts : (outs : Outs) (memory : List ℕ) (book : Book) (starts : Starts) → after_writes outs memory book ≡ Ok starts → is_some starts.look ≡ is_some outs.look
+pub look_starts : (outs : Outs) (memory : List ℕ) (book : Book) (starts : Begun) → after_writes outs memory book ≡ Ok starts → is_some starts.look ≡ is_some outs.look
 unfolding after_writes
 look_starts outs memory book starts e =
     through (after_vpm_write outs.vpm book) _ starts (λ b _.
@@ -190,7 +190,7 @@ look_starts outs memory book starts e =
     through (load_started outs.load_at c memory) _ starts (λ load _.
     through (store_started outs.store_at c memory) _ starts (λ store _.
     through (look_issued outs.look memory) _ starts (λ look is last.
-    ap (λ (s : Starts). is_some s.look) (sym (ok_same _ _ last)) ∙ issued_same outs.look memory look is))))) e
+    ap (λ (s : Begun). is_some s.look) (sym (ok_same _ _ last)) ∙ issued_same outs.look memory look is))))) e
 
 -- the queue of a unit
 
@@ -225,7 +225,7 @@ unit_step f add mul look unit looks low few same free =
     (ap (λ (b : Bool). one_if (b && ((outs_from f add mul).look_unit == unit))) same ∙ sym (made_is f add mul unit low few)))
 
 -- the outstanding look-ups of a unit after an instruction are those that paths count
-pub looks_step : (f : Fields) (add mul memory : List ℕ) (book : Book) (starts : Starts) (lookups : LookupsState) (unit : ℕ) → unit < 2 → actions f ≤ 1
+pub looks_step : (f : Fields) (add mul memory : List ℕ) (book : Book) (starts : Begun) (lookups : LookupsState) (unit : ℕ) → unit < 2 → actions f ≤ 1
     → after_writes (outs_from f add mul) memory book ≡ Ok starts → (is_tmu_load f unit && is_none (oldest_words (queue_of lookups unit))) ≡ false
     → length (queue_of (lookups_after f (outs_from f add mul) starts.look lookups) unit) ≡ looks_after f unit (length (queue_of lookups unit))
 looks_step f add mul memory book starts lookups zero low few done free =

@@ -10,7 +10,7 @@ use Rattle.qpu_dma.specs.declared.transfer.Transfer.{Transfer}
 use Rattle.qpu_tmu.specs.declared.look_up.LookUp.{LookUp}
 use Rattle.qpu_tmu.specs.Looks.{LookupsState, queue_of, with_queue, next_look, with_words}
 use Rattle.qpu_shared.specs.declared.pending.Pending.{Pending}
-use Rattle.qpu_shared.specs.declared.starts.Starts.{Starts}
+use Rattle.qpu_shared.specs.declared.starts.Begun.{Begun}
 use Rattle.qpu_shared.specs.SharedState.{SharedState, nothing_pending}
 use Rattle.qpu_shared.specs.Instruction.{pending_of, looks_of, shared_after}
 use Rattle.qpu_shared.specs.Moves.{unit_looks, fetched, after_load, after_store, after_fetch, load_moved, store_moved, fetch_moved}
@@ -29,7 +29,7 @@ none_left left e = cc
 others_stay : (pending : List Pending) (q other : ℕ) (new : Pending) → other ≢ q → slice_index_or (slice_set pending q new) other nothing_pending ≡ slice_index_or pending other nothing_pending
 others_stay pending q other new apart = get_or-set_other pending q other new nothing_pending apart
 
-pub others_by_instruction : (f : Fields) (p : ProcessorState) (outs : Outs) (starts : Starts) (h : SharedState) (q other : ℕ) → p.q ≡ q → other ≢ q
+pub others_by_instruction : (f : Fields) (p : ProcessorState) (outs : Outs) (starts : Begun) (h : SharedState) (q other : ℕ) → p.q ≡ q → other ≢ q
     → pending_of (shared_after f p outs starts h) other ≡ pending_of h other
 unfolding shared_after
 others_by_instruction f p outs starts h q other is apart =
@@ -143,7 +143,7 @@ looks_by_fetch h q unit u left e there = fetch_looks h q unit u left (fetched h.
 
 -- how many processors there are
 
-pub length_kept_by_instruction : (f : Fields) (p : ProcessorState) (outs : Outs) (starts : Starts) (h : SharedState) → length (shared_after f p outs starts h).pending ≡ length h.pending
+pub length_kept_by_instruction : (f : Fields) (p : ProcessorState) (outs : Outs) (starts : Begun) (h : SharedState) → length (shared_after f p outs starts h).pending ≡ length h.pending
 unfolding shared_after
 length_kept_by_instruction f p outs starts h = length-set h.pending p.q _
 

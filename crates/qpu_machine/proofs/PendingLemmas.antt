@@ -9,15 +9,15 @@ use Rattle.qpu_word.specs.declared.setup.Book.{Book}
 use Rattle.qpu_word.specs.declared.fault.FaultKind.{FaultKind}
 use Rattle.qpu_word.specs.declared.fault.FaultKind.TheVariants.{Transfer as TransferFault}
 use Rattle.qpu_word.specs.declared.code.TheConstants.{WRITE_DMA_ADDRESS, TMU_UNITS}
-use Rattle.qpu_word.specs.Words.{is_exchanged, is_tmu_load, add_writes, mul_writes, writes_a, writes_b, one_if}
+use Rattle.qpu_word.specs.Words.{swaps_writes, is_tmu_load, add_writes, mul_writes, writes_a, writes_b, one_if}
 use Rattle.qpu_word.specs.Instruction.{after_setups, first_lane, as_lanes, is_look_address, look_address, outs_from, sent_to, sent_to_a, sent_to_b}
 use Rattle.qpu_dma.specs.declared.transfer.Transfer.{Transfer}
-use Rattle.qpu_dma.specs.Transfers.{Plan, load_plan, store_plan}
+use Rattle.qpu_dma.specs.Transfers.{TransferPlan, load_plan, store_plan}
 use Rattle.qpu_tmu.specs.declared.look_up.LookUp.{LookUp}
 use Rattle.qpu_tmu.specs.Looks.{LookupsState, with_queue, is_waiting, with_look, with_words, next_look}
 use Rattle.qpu_shared.specs.declared.pending.Pending.{Pending}
-use Rattle.qpu_shared.specs.declared.starts.Starts.{Starts}
-use Rattle.qpu_shared.specs.Instruction.{looks_of, after_vpm_write, started, load_started, store_started, look_issued, after_writes, or_pending, after_take, after_issue, pending_after}
+use Rattle.qpu_shared.specs.declared.starts.Begun.{Begun}
+use Rattle.qpu_shared.specs.Instruction.{looks_of, after_vpm_write, transfer_started, load_started, store_started, look_issued, after_writes, or_pending, after_take, after_issue, pending_after}
 use Rattle.qpu_shared.specs.Moves.{fetched, unit_looks}
 use Rattle.qpu_machine.specs.Bound.{waiting, moves_pending}
 use Rattle.qpu_machine.proofs.KeptLooks.{ok_same, through, look_starts, by_issue, none_there}
@@ -72,8 +72,8 @@ fits_some : (b : Bool) (t : Transfer) (issued : Option Transfer) → (if b then 
 fits_some true t issued e = ok_some t issued e
 fits_some false t issued e = absurd (cc)
 
-started_some : (plan : Transfer → Plan) (memory : List ℕ) (setup : Option ℕ) (step address : ℕ) (issued : Option Transfer)
-    → started plan memory setup step address ≡ Ok issued → is_some issued ≡ true
+started_some : (plan : Transfer → TransferPlan) (memory : List ℕ) (setup : Option ℕ) (step address : ℕ) (issued : Option Transfer)
+    → transfer_started plan memory setup step address ≡ Ok issued → is_some issued ≡ true
 started_some plan memory None step address issued e = absurd (cc)
 started_some plan memory (Some setup) step address issued e = fits_some _ _ issued e
 
@@ -85,7 +85,7 @@ store_same : (at : Option ℕ) (book : Book) (memory : List ℕ) (issued : Optio
 store_same None book memory issued e = ok_none issued e
 store_same (Some address) book memory issued e = started_some store_plan memory book.store book.store_stride address issued e
 
-load_starts : (outs : Outs) (memory : List ℕ) (book : Book) (starts : Starts) → after_writes outs memory book ≡ Ok starts → is_some starts.load ≡ is_some outs.load_at
+load_starts : (outs : Outs) (memory : List ℕ) (book : Book) (starts : Begun) → after_writes outs memory book ≡ Ok starts → is_some starts.load ≡ is_some outs.load_at
 unfolding after_writes
 load_starts outs memory book starts e =
     through (after_vpm_write outs.vpm book) _ starts (λ b _.
@@ -93,9 +93,9 @@ load_starts outs memory book starts e =
     through (load_started outs.load_at c memory) _ starts (λ load is.
     through (store_started outs.store_at c memory) _ starts (λ store _.
     through (look_issued outs.look memory) _ starts (λ look _ last.
-    ap (λ (s : Starts). is_some s.load) (sym (ok_same _ _ last)) ∙ load_same outs.load_at c memory load is))))) e
+    ap (λ (s : Begun). is_some s.load) (sym (ok_same _ _ last)) ∙ load_same outs.load_at c memory load is))))) e
 
-store_starts : (outs : Outs) (memory : List ℕ) (book : Book) (starts : Starts) → after_writes outs memory book ≡ Ok starts → is_some starts.store ≡ is_some outs.store_at
+store_starts : (outs : Outs) (memory : List ℕ) (book : Book) (starts : Begun) → after_writes outs memory book ≡ Ok starts → is_some starts.store ≡ is_some outs.store_at
 unfolding after_writes
 store_starts outs memory book starts e =
     through (after_vpm_write outs.vpm book) _ starts (λ b _.
@@ -103,7 +103,7 @@ store_starts outs memory book starts e =
     through (load_started outs.load_at c memory) _ starts (λ load _.
     through (store_started outs.store_at c memory) _ starts (λ store is.
     through (look_issued outs.look memory) _ starts (λ look _ last.
-    ap (λ (s : Starts). is_some s.store) (sym (ok_same _ _ last)) ∙ store_same outs.store_at c memory store is))))) e
+    ap (λ (s : Begun). is_some s.store) (sym (ok_same _ _ last)) ∙ store_same outs.store_at c memory store is))))) e
 
 -- a word has two writes, so it starts two moves at most
 
@@ -136,7 +136,7 @@ two_writes f add mul =
     let a : ℕ = one_if (add_writes f && (f.waddr_add == WRITE_DMA_ADDRESS)) in
     let m : ℕ = one_if (mul_writes f && (f.waddr_mul == WRITE_DMA_ADDRESS)) in
     let files : one_if (writes_a f WRITE_DMA_ADDRESS) + one_if (writes_b f WRITE_DMA_ADDRESS) ≡ a + m =
-    either_file (is_exchanged f) (add_writes f && (f.waddr_add == WRITE_DMA_ADDRESS)) (mul_writes f && (f.waddr_mul == WRITE_DMA_ADDRESS)) in
+    either_file (swaps_writes f) (add_writes f && (f.waddr_add == WRITE_DMA_ADDRESS)) (mul_writes f && (f.waddr_mul == WRITE_DMA_ADDRESS)) in
     let few_a = one_most (add_writes f && (f.waddr_add == WRITE_DMA_ADDRESS)) in
     let few_m = one_most (mul_writes f && (f.waddr_mul == WRITE_DMA_ADDRESS)) in
     let few_l = one_most (is_some (as_lanes (sent_to f add mul (look_address f)))) in
@@ -151,7 +151,7 @@ unfolding outs_from
 two_outs f add mul = rw (to_load f add mul, to_store f add mul) (two_writes f add mul)
 
 -- so an instruction makes two more pending at most
-pub moves_by_instruction : (f : Fields) (add mul memory : List ℕ) (book : Book) (starts : Starts) (pending : Pending) → after_writes (outs_from f add mul) memory book ≡ Ok starts
+pub moves_by_instruction : (f : Fields) (add mul memory : List ℕ) (book : Book) (starts : Begun) (pending : Pending) → after_writes (outs_from f add mul) memory book ≡ Ok starts
     → moves_pending (pending_after f (outs_from f add mul) starts pending) ≤ moves_pending pending + 2
 unfolding pending_after
 moves_by_instruction f add mul memory book starts pending begins =

@@ -7,7 +7,7 @@ use Rattle.qpu_word.specs.Processor.{ProcessorState}
 use Rattle.qpu_tmu.specs.Looks.{LookupsState}
 use Rattle.qpu_shared.specs.SharedState.{SharedState}
 use Rattle.qpu_shared.specs.Instruction.{pending_of}
-use Rattle.qpu_hazard.specs.Paths.{IsPath, flags_of, carry_of, looks_of}
+use Rattle.qpu_hazard.specs.Paths.{IsPath, flags_defined, c_defined, outstanding_looks}
 use Rattle.qpu_hazard.specs.Standing.{ProcessorStands}
 
 -- a processor stands on a path of its program, which breaks no rule: at its place, with the same in
@@ -16,10 +16,10 @@ pub record IsOnPath (code : List ℕ) (p : ProcessorState) (looks : LookupsState
   pub path : List ℕ
   pub is_path : IsPath code path
   pub stands : ProcessorStands code path p.place p.rest
-  pub flags : is_some p.flags.zn ≡ flags_of code path
-  pub carry : is_some p.flags.c ≡ carry_of code path
-  pub looks0 : length looks.looks0 ≡ looks_of code 0 path
-  pub looks1 : length looks.looks1 ≡ looks_of code 1 path
+  pub flags : is_some p.flags.zn ≡ flags_defined code path
+  pub carry : is_some p.flags.c ≡ c_defined code path
+  pub looks0 : length looks.looks0 ≡ outstanding_looks code 0 path
+  pub looks1 : length looks.looks1 ≡ outstanding_looks code 1 path
 
 -- a processor that goes on does
 abbrev pub IsKept : List ℕ → ProcessorState → LookupsState → Type 0

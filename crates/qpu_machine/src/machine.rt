@@ -30,14 +30,14 @@ pub struct Machine {
 }
 
 impl Model for Machine {
-    ghost use Rattle.qpu_machine.specs.Views.{Started, started_of, state_of};
+    ghost use Rattle.qpu_machine.specs.Views.{Started, started_of, machine_state};
     ghost use Rattle.qpu_machine.specs.Sound.{IsWhole};
 
     ghost Value = { Started };
 
     ghost view = { started_of };
 
-    ghost invariant = { λ inside. IsWhole inside.starts.items (state_of inside) };
+    ghost invariant = { λ inside. IsWhole inside.starts.items (machine_state inside) };
 }
 
 impl Machine {

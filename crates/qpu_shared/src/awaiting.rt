@@ -9,9 +9,7 @@ ghost use Rattle.qpu_shared.specs.Instruction.{count_of, first_cause, is_down, l
 use crate::cause::Cause;
 use crate::shared::Shared;
 use qpu_tmu::LOOK_UPS;
-use qpu_word::code::{
-    NOWHERE, READ_DMA_WAIT, READ_MUTEX, SEMAPHORE_MOST, WRITE_DMA_ADDRESS,
-};
+use qpu_word::code::{NOWHERE, READ_DMA_WAIT, READ_MUTEX, SEMAPHORE_MOST, WRITE_DMA_ADDRESS};
 use qpu_word::{Fields, Word};
 
 /// Whether a semaphore word decrements.

@@ -15,7 +15,7 @@ ghost use Rattle.qpu_shared.specs.Moves.{with_pending};
 use crate::awaiting::is_down;
 use crate::pending::Pending;
 use crate::shared::Shared;
-use crate::starts::Starts;
+use crate::starts::Begun;
 use qpu_dma::Transfer;
 use qpu_vpm::VectorSetup;
 use qpu_word::code::{READ_MUTEX, WRITE_MUTEX};
@@ -56,7 +56,7 @@ impl Pending {
 
     /// What is pending after an instruction: a start, a take, and then a new look-up.
     #[tactic(auto, unfolding(crate::specs::Instruction::pending_after))]
-    fn go_on(&mut self, f: &Fields, outs: &Outs, starts: &Starts)
+    fn go_on(&mut self, f: &Fields, outs: &Outs, starts: &Begun)
         requires unit { outs.now.look_unit < 2 }
         requires take0 { (is_tmu_load f.now 0 && is_none (oldest_words (queue_of self.old.looks 0))) ≡ false }
         requires take1 { (is_tmu_load f.now 1 && is_none (oldest_words (queue_of self.old.looks 1))) ≡ false }
@@ -126,7 +126,7 @@ impl Shared {
     }
 
     /// What processor q has pending after an instruction.
-    fn put_pending(&mut self, f: &Fields, q: u32, outs: &Outs, starts: &Starts)
+    fn put_pending(&mut self, f: &Fields, q: u32, outs: &Outs, starts: &Begun)
         requires q { q < 12 }
         requires unit { outs.now.look_unit < 2 }
         requires take0 { (is_tmu_load f.now 0 && is_none (oldest_words (looks_of (pending_of self.old q) 0))) ≡ false }
@@ -141,7 +141,7 @@ impl Shared {
 
     /// Leaves what an instruction of processor q does to the shared parts, by the book before it.
     #[tactic(auto, unfolding(crate::specs::Instruction::shared_after, crate::specs::Instruction::mutex_after))]
-    pub(crate) fn commit(&mut self, f: &Fields, q: u32, before: &Book, outs: &Outs, starts: &Starts)
+    pub(crate) fn commit(&mut self, f: &Fields, q: u32, before: &Book, outs: &Outs, starts: &Begun)
         requires q { q < 12 }
         requires number { f.now.number < 16 }
         requires unit { outs.now.look_unit < 2 }

@@ -29,11 +29,11 @@ impl Model for Shared {
 
     ghost Value = { SharedState };
 
-    ghost use Rattle.qpu_shared.specs.Views.{state_of, IsSound};
+    ghost use Rattle.qpu_shared.specs.Views.{shared_state, IsSoundShared};
 
-    ghost view = { state_of };
+    ghost view = { shared_state };
 
-    ghost invariant = { IsSound };
+    ghost invariant = { IsSoundShared };
 }
 
 impl Shared {

@@ -9,7 +9,7 @@ ghost use Rattle.qpu_tool.specs.declared.words.Command.TheVariants.{Check};
 ghost use Rattle.qpu_tool.specs.declared.command.TheConstants.{MOST_INPUT};
 ghost use Rattle.qpu_tool.specs.Refusals.{is_high};
 ghost use Rattle.qpu_tool.specs.TextAnswers.{accepted_answer};
-ghost use Rattle.qpu_tool.specs.Answer.{Gives};
+ghost use Rattle.qpu_tool.specs.Answer.{IsGiven};
 ghost use Rattle.qpu_tool.specs.Answers.{Judged};
 
 use crate::misspelling::{is_want, say_asm_fault};
@@ -23,7 +23,7 @@ use std::alloc::Global;
 
 /// Says that a program is accepted, and how many words it has.
 fn say_accepted<K: Sink>(words: &[Word], sink: &mut K) -> Status
-    ensures { Gives (accepted_answer (map (λ word. word.0) words.now)) (K.shown sink.old) (K.shown sink.new) result }
+    ensures { IsGiven (accepted_answer (map (λ word. word.0) words.now)) (K.shown sink.old) (K.shown sink.new) result }
 {
     let pieces = [
         Piece::Text(b"accepted "),

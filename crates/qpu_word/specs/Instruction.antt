@@ -19,7 +19,7 @@ use Rattle.qpu_word.specs.declared.fault.FaultKind.{FaultKind}
 use Rattle.qpu_word.specs.declared.fault.FaultKind.TheVariants.{Branch}
 use Rattle.qpu_word.specs.declared.code.TheConstants.{KIND_LOAD, KIND_LOAD_SIGNED, NOWHERE, BRANCH_SLOTS, END_SLOTS, INSTRUCTION_BYTES, WRITE_HOST_INT, WRITE_UNIFORMS_ADDRESS, WRITE_VPM, WRITE_VPM_SETUP, WRITE_DMA_ADDRESS, WRITE_TMU0_S, WRITE_TMU1_S}
 use Rattle.qpu_word.specs.Lanes.{lanes, lane, mask}
-use Rattle.qpu_word.specs.Words.{writes_link, field, fields_of, is_unit_word, is_load, is_branch, is_program_end, is_tmu_load, add_active, mul_active, add_writes, mul_writes, is_exchanged, writes, writes_a, writes_b}
+use Rattle.qpu_word.specs.Words.{writes_link, field, fields_of, is_unit_word, is_load, is_branch, is_program_end, is_tmu_load, add_active, mul_active, add_writes, mul_writes, swaps_writes, writes, writes_a, writes_b}
 use Rattle.qpu_word.specs.Operations.{low32, add_result, add_carry, mul_result, add_op, mul_op}
 use Rattle.qpu_word.specs.Operands.{row_of, operand}
 use Rattle.qpu_word.specs.Flags.{branch_test}
@@ -92,19 +92,19 @@ write_cond f cond = if is_branch f then 1 else cond
 
 -- what the add unit leaves at its address
 unfoldable pub add_stored : Fields → ProcessorState → Ins → List ℕ
-add_stored f p ins = stored f p (is_exchanged f) f.waddr_add (write_cond f f.cond_add) (add_sent f p ins)
+add_stored f p ins = stored f p (swaps_writes f) f.waddr_add (write_cond f f.cond_add) (add_sent f p ins)
 
 -- what the mul unit leaves at its address
 unfoldable pub mul_stored : Fields → ProcessorState → Ins → List ℕ
-mul_stored f p ins = stored f p (not (is_exchanged f)) f.waddr_mul (write_cond f f.cond_mul) (mul_sent f p ins)
+mul_stored f p ins = stored f p (not (swaps_writes f)) f.waddr_mul (write_cond f f.cond_mul) (mul_sent f p ins)
 
 -- the registers after the add unit's write
 unfoldable pub put_add : Fields → List ℕ → ProcessorState → ProcessorState
-put_add f values p = if add_writes f then written (is_exchanged f) f.waddr_add values p else p
+put_add f values p = if add_writes f then written (swaps_writes f) f.waddr_add values p else p
 
 -- the registers after the mul unit's write
 unfoldable pub put_mul : Fields → List ℕ → ProcessorState → ProcessorState
-put_mul f values p = if mul_writes f then written (not (is_exchanged f)) f.waddr_mul values p else p
+put_mul f values p = if mul_writes f then written (not (swaps_writes f)) f.waddr_mul values p else p
 
 -- r4 after a TMU load
 unfoldable pub put_loaded : Fields → Ins → ProcessorState → ProcessorState
@@ -214,11 +214,11 @@ sent_to f add mul address =
 
 -- the value sent to an address of file A
 unfoldable pub sent_to_a : Fields → List ℕ → List ℕ → ℕ → Option (List ℕ)
-sent_to_a f add mul address = if writes_a f address then Some (if is_exchanged f then mul else add) else None
+sent_to_a f add mul address = if writes_a f address then Some (if swaps_writes f then mul else add) else None
 
 -- the value sent to an address of file B
 unfoldable pub sent_to_b : Fields → List ℕ → List ℕ → ℕ → Option (List ℕ)
-sent_to_b f add mul address = if writes_b f address then Some (if is_exchanged f then add else mul) else None
+sent_to_b f add mul address = if writes_b f address then Some (if swaps_writes f then add else mul) else None
 
 -- a value's lane 0
 abbrev pub first_lane : Option (List ℕ) → Option ℕ

@@ -140,18 +140,18 @@ reads f address = reads_a f address || reads_b f address
 -- where the units write
 
 -- the add unit writes file B, and the mul unit file A
-abbrev pub is_exchanged : Fields → Bool
-is_exchanged f = f.ws == 1
+abbrev pub swaps_writes : Fields → Bool
+swaps_writes f = f.ws == 1
 
 -- the unit of file A writes an address
 abbrev pub writes_a : Fields → ℕ → Bool
 writes_a f address =
-    if is_exchanged f then mul_writes f && (f.waddr_mul == address) else add_writes f && (f.waddr_add == address)
+    if swaps_writes f then mul_writes f && (f.waddr_mul == address) else add_writes f && (f.waddr_add == address)
 
 -- the unit of file B writes an address
 abbrev pub writes_b : Fields → ℕ → Bool
 writes_b f address =
-    if is_exchanged f then add_writes f && (f.waddr_add == address) else mul_writes f && (f.waddr_mul == address)
+    if swaps_writes f then add_writes f && (f.waddr_add == address) else mul_writes f && (f.waddr_mul == address)
 
 -- a unit writes an address
 abbrev pub writes : Fields → ℕ → Bool
@@ -183,7 +183,7 @@ is_link_address a = nat_le a WRITE_R3 || (a == NOWHERE)
 -- the unit that writes file A is active and writes a row
 abbrev pub packs_row : Fields → Bool
 packs_row f =
-    if is_exchanged f then mul_active f && nat_lt f.waddr_mul ROWS else add_active f && nat_lt f.waddr_add ROWS
+    if swaps_writes f then mul_active f && nat_lt f.waddr_mul ROWS else add_active f && nat_lt f.waddr_add ROWS
 
 -- the packing of an ALU or small immediate word can't be done
 abbrev pub bad_packing : Fields → Bool

@@ -28,7 +28,14 @@ fn address_by(acts: bool, address: u32) -> u32
 fn cond_by(acts: bool, address: u32, cond: u32) -> u32
     ensures { result ≡ cond_by acts address cond }
 {
-    said_by(acts, if address == NOWHERE { COND_ALWAYS } else { cond })
+    said_by(
+        acts,
+        if address == NOWHERE {
+            COND_ALWAYS
+        } else {
+            cond
+        },
+    )
 }
 
 /// A read address; 39 in place of a row that isn't read.

@@ -7,7 +7,7 @@ use crate::fault::JobFault;
 
 /// Why a line fails, in the order in which they count.
 #[derive(Clone, Copy, Debug, PartialEq, Eq)]
-pub(crate) enum Cause {
+pub(crate) enum Reason {
     Line,
     Size,
     Limit,
@@ -17,19 +17,19 @@ pub(crate) enum Cause {
     Place,
 }
 
-impl Cause {
+impl Reason {
     /// The fault of this cause in a line.
     pub(crate) fn at(self, number: u32) -> JobFault
         ensures { result ≡ fault_at number self }
     {
         match self {
-            Cause::Line => JobFault::Line(number),
-            Cause::Size => JobFault::Size(number),
-            Cause::Limit => JobFault::Limit(number),
-            Cause::Twice => JobFault::Twice(number),
-            Cause::Processor => JobFault::Processor(number),
-            Cause::NoProgram => JobFault::NoProgram(number),
-            Cause::Place => JobFault::Place(number),
+            Reason::Line => JobFault::Line(number),
+            Reason::Size => JobFault::Size(number),
+            Reason::Limit => JobFault::Limit(number),
+            Reason::Twice => JobFault::Twice(number),
+            Reason::Processor => JobFault::Processor(number),
+            Reason::NoProgram => JobFault::NoProgram(number),
+            Reason::Place => JobFault::Place(number),
         }
     }
 }
