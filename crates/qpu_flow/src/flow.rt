@@ -104,7 +104,7 @@ pub struct Flow {
 
 impl Model for Flow {
     ghost use Rattle.std.specs.Prelude.{ℕ, List};
-    ghost use Rattle.qpu_flow.specs.Code.{numbers_of};
+    ghost use Rattle.qpu_word.specs.Words.{numbers_of};
     ghost use Rattle.qpu_flow.specs.Control.{IsFlow};
 
     ghost Value = { List ℕ };

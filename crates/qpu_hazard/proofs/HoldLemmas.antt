@@ -73,11 +73,11 @@ slots_from (Some s) f none = λ some. by_test (s.left == 0) refl some
         (or_left _ _ held, or_right _ _ held)
 
 -- H12
-defined_from : (uses loaded zn flags tests carry : Bool) → ((uses && not loaded) || (zn && not flags) || (tests && not carry)) ≡ false
-    → (uses ≡ true → loaded ≡ true) × (zn ≡ true → flags ≡ true) × (tests ≡ true → carry ≡ true)
-defined_from uses loaded zn flags tests carry none =
+defined_from : (uses r4 zn flags tests carry : Bool) → ((uses && not r4) || (zn && not flags) || (tests && not carry)) ≡ false
+    → (uses ≡ true → r4 ≡ true) × (zn ≡ true → flags ≡ true) × (tests ≡ true → carry ≡ true)
+defined_from uses r4 zn flags tests carry none =
     let first = or_left _ _ none in
-    (and_not uses loaded (or_left _ _ first), and_not zn flags (or_right (uses && not loaded) _ first), and_not tests carry (or_right _ _ none))
+    (and_not uses r4 (or_left _ _ first), and_not zn flags (or_right (uses && not r4) _ first), and_not tests carry (or_right _ _ none))
 
 -- H8 and H13: a word with a TMU load makes no look-up
 

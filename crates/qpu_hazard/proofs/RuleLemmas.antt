@@ -10,7 +10,7 @@ use Rattle.qpu_hazard.specs.Rules.{h1, h2, h3, h4, h5, h6, h7, h8, h9, h10, h11,
 use Rattle.qpu_hazard.specs.Paths.{looks_after}
 use Rattle.qpu_hazard.proofs.Basics.{left_empty, right_empty, when_empty, or_left, or_right}
 
-pub record BreaksNothing (code : List ℕ) (last earlier : Option ℕ) (slots : Option Slots) (loaded flags carry : Bool) (looks_0 looks_1 at : ℕ) : Type 0 where
+pub record BreaksNothing (code : List ℕ) (last earlier : Option ℕ) (slots : Option Slots) (r4 flags carry : Bool) (looks_0 looks_1 at : ℕ) : Type 0 where
   pub rule_1 : h1 code last (fields_at code at) ≡ []
   pub rule_2 : h2 code last (fields_at code at) ≡ []
   pub rule_3 : h3 code last (fields_at code at) ≡ []
@@ -23,17 +23,17 @@ pub record BreaksNothing (code : List ℕ) (last earlier : Option ℕ) (slots : 
   pub rule_9 : h9 slots (fields_at code at) ≡ []
   pub rule_10 : h10 code slots at ≡ []
   pub rule_11 : h11 (fields_at code at) at ≡ []
-  pub rule_12 : h12 loaded flags carry (fields_at code at) at ≡ []
+  pub rule_12 : h12 r4 flags carry (fields_at code at) at ≡ []
   pub rule_13_0 : h13 0 looks_0 (fields_at code at) at ≡ []
   pub rule_13_1 : h13 1 looks_1 (fields_at code at) at ≡ []
   pub rule_15 : h15 (fields_at code at) at ≡ []
   pub rule_16 : h16 (fields_at code at) at ≡ []
 
-pub breaks_nothing : (code : List ℕ) (last earlier : Option ℕ) (slots : Option Slots) (loaded flags carry : Bool) (looks_0 looks_1 at : ℕ)
-    → rules_broken code last earlier slots loaded flags carry looks_0 looks_1 at ≡ []
-    → BreaksNothing code last earlier slots loaded flags carry looks_0 looks_1 at
+pub breaks_nothing : (code : List ℕ) (last earlier : Option ℕ) (slots : Option Slots) (r4 flags carry : Bool) (looks_0 looks_1 at : ℕ)
+    → rules_broken code last earlier slots r4 flags carry looks_0 looks_1 at ≡ []
+    → BreaksNothing code last earlier slots r4 flags carry looks_0 looks_1 at
 unfolding rules_broken
-breaks_nothing code last earlier slots loaded flags carry looks_0 looks_1 at none =
+breaks_nothing code last earlier slots r4 flags carry looks_0 looks_1 at none =
     let to_15 = left_empty _ _ none in
     let to_13_1 = left_empty _ _ to_15 in
     let to_13_0 = left_empty _ _ to_13_1 in

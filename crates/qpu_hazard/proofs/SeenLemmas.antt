@@ -29,19 +29,19 @@ same_slots s t e =
 
 pub same_trail : (eq : Slots → Slots → Bool) → ((s t : Slots) → eq s t ≡ true → s ≡ t) → (x y : Trail)
     → (option_eq eqb x.last y.last && (option_eq eqb x.earlier y.earlier && (option_eq eq x.slots y.slots
-    && (beq x.loaded y.loaded && (beq x.flags y.flags && (beq x.carry y.carry
+    && (beq x.r4 y.r4 && (beq x.flags y.flags && (beq x.carry y.carry
     && (eqb x.looks_0 y.looks_0 && eqb x.looks_1 y.looks_1))))))) ≡ true → x ≡ y
 same_trail eq same x y e =
     let from_earlier = and_second (option_eq eqb x.last y.last) _ e in
     let from_slots = and_second (option_eq eqb x.earlier y.earlier) _ from_earlier in
     let from_loaded = and_second (option_eq eq x.slots y.slots) _ from_slots in
-    let from_flags = and_second (beq x.loaded y.loaded) _ from_loaded in
+    let from_flags = and_second (beq x.r4 y.r4) _ from_loaded in
     let from_carry = and_second (beq x.flags y.flags) _ from_flags in
     let from_looks = and_second (beq x.carry y.carry) _ from_carry in
     let last = same_option eqb eqb-true x.last y.last (and_first _ _ e) in
     let earlier = same_option eqb eqb-true x.earlier y.earlier (and_first _ _ from_earlier) in
     let slots = same_option eq same x.slots y.slots (and_first _ _ from_slots) in
-    let loaded = same_bool x.loaded y.loaded (and_first _ _ from_loaded) in
+    let r4 = same_bool x.r4 y.r4 (and_first _ _ from_loaded) in
     let flags = same_bool x.flags y.flags (and_first _ _ from_flags) in
     let carry = same_bool x.carry y.carry (and_first _ _ from_carry) in
     let looks_0 = eqb-true x.looks_0 y.looks_0 (and_first _ _ from_looks) in
@@ -50,7 +50,7 @@ same_trail eq same x y e =
       last = last i;
       earlier = earlier i;
       slots = slots i;
-      loaded = loaded i;
+      r4 = r4 i;
       flags = flags i;
       carry = carry i;
       looks_0 = looks_0 i;

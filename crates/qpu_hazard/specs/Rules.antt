@@ -86,8 +86,8 @@ h11 f at = break_when (writes_one_place f) 11 at
 -- H12: what is used or tested was defined: r4 by a TMU load, Z and N by some setting of the flags, C by
 -- the last one
 abbrev pub h12 : Bool → Bool → Bool → Fields → ℕ → List Break
-h12 loaded flags carry f at =
-    break_when ((uses_r4 f && not loaded) || (tests_zn f && not flags) || (tests_carry f && not carry)) 12 at
+h12 r4 flags carry f at =
+    break_when ((uses_r4 f && not r4) || (tests_zn f && not flags) || (tests_carry f && not carry)) 12 at
 
 -- H13: a unit holds four look-ups at most, and no TMU load meets an empty queue
 abbrev pub h13 : ℕ → ℕ → Fields → ℕ → List Break
@@ -105,7 +105,7 @@ h16 f at = break_when (nat_lt 1 (vpm_accesses f)) 16 at
 -- all rules that the word at a place breaks, after the last word and the one before it, with these
 -- slots in progress, r4, Z with N, and C defined or not, and so many look-ups outstanding
 unfoldable pub rules_broken : List ℕ → Option ℕ → Option ℕ → Option Slots → Bool → Bool → Bool → ℕ → ℕ → ℕ → List Break
-rules_broken code last earlier slots loaded flags carry looks_0 looks_1 at =
+rules_broken code last earlier slots r4 flags carry looks_0 looks_1 at =
     h1 code last (fields_at code at)
     ++ h2 code last (fields_at code at)
     ++ h3 code last (fields_at code at)
@@ -118,7 +118,7 @@ rules_broken code last earlier slots loaded flags carry looks_0 looks_1 at =
     ++ h9 slots (fields_at code at)
     ++ h10 code slots at
     ++ h11 (fields_at code at) at
-    ++ h12 loaded flags carry (fields_at code at) at
+    ++ h12 r4 flags carry (fields_at code at) at
     ++ h13 0 looks_0 (fields_at code at) at
     ++ h13 1 looks_1 (fields_at code at) at
     ++ h15 (fields_at code at) at

@@ -16,7 +16,7 @@ trail code t = record {
   last = last_of t;
   earlier = earlier_of t;
   slots = slots_of code t;
-  loaded = r4_defined code t;
+  r4 = r4_defined code t;
   flags = flags_defined code t;
   carry = c_defined code t;
   looks_0 = outstanding_looks code 0 t;
@@ -29,7 +29,7 @@ advance code r a = record {
   last = Some a;
   earlier = r.last;
   slots = slots_after code r.slots a;
-  loaded = loads_r4 (fields_at code a) || r.loaded;
+  r4 = loads_r4 (fields_at code a) || r.r4;
   flags = sets_flags (fields_at code a) || r.flags;
   carry = carry_after (fields_at code a) r.carry;
   looks_0 = looks_after (fields_at code a) 0 r.looks_0;
@@ -42,7 +42,7 @@ follows_from code r a = leads_to code (next_from code r.slots r.last) a
 
 -- the rules that a word breaks after a trail
 unfoldable pub broken_from : List ℕ → Trail → ℕ → List Break
-broken_from code r a = rules_broken code r.last r.earlier r.slots r.loaded r.flags r.carry r.looks_0 r.looks_1 a
+broken_from code r a = rules_broken code r.last r.earlier r.slots r.r4 r.flags r.carry r.looks_0 r.looks_1 a
 
 -- the last word but one matters only where it wrote the uniforms address
 abbrev pub remembered : List ℕ → Option ℕ → Option ℕ

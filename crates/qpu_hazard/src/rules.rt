@@ -174,9 +174,9 @@ fn note_looks(
 
 /// Notes the break of H12, where a word uses or tests what isn't defined.
 fn note_undefined(breaks: &mut Vec<Break>, r: &Trail, f: &Fields, at: u32) -> Result<(), AllocError>
-    ensures { OnOk result (breaks.new.items ≡ breaks.old.items ++ h12 r.now.loaded r.now.flags r.now.carry f.now at) }
+    ensures { OnOk result (breaks.new.items ≡ breaks.old.items ++ h12 r.now.r4 r.now.flags r.now.carry f.now at) }
 {
-    let undefined = (uses_r4(f) && !r.loaded)
+    let undefined = (uses_r4(f) && !r.r4)
         || (tests_zn(f) && !r.flags)
         || (tests_carry(f) && !r.carry);
     note(breaks, undefined, H12, at)

@@ -19,7 +19,7 @@ pub struct Trail {
     /// The slots in progress.
     pub slots: Option<Slots>,
     /// Whether r4 is defined: some word was a TMU load.
-    pub loaded: bool,
+    pub r4: bool,
     /// Whether Z and N are defined: some word set the flags.
     pub flags: bool,
     /// Whether C is defined: the last setting of the flags defined it.
@@ -38,7 +38,7 @@ pub(crate) fn opening_trail() -> Trail
         last: None,
         earlier: None,
         slots: None,
-        loaded: false,
+        r4: false,
         flags: false,
         carry: false,
         looks_0: 0,
@@ -79,7 +79,7 @@ impl Trail {
             last: Some(at),
             earlier: self.last,
             slots: flow.slots_after(self.slots, at),
-            loaded: loads_r4(&f) || self.loaded,
+            r4: loads_r4(&f) || self.r4,
             flags: sets_flags(&f) || self.flags,
             carry: carry_after(&f, self.carry),
             looks_0: looks_after(&f, 0, self.looks_0),

@@ -34,7 +34,7 @@ pub(crate) fn number_of(word: &[u8]) -> Option<u32>
 }
 
 /// The numbers that words write; none where a word writes none.
-pub(crate) fn numbers_of(alloc: Global, words: &[&[u8]]) -> Result<Option<Vec<u32>>, NoMemory>
+pub(crate) fn line_numbers(alloc: Global, words: &[&[u8]]) -> Result<Option<Vec<u32>>, NoMemory>
     ensures { IfOk result (λ numbers. option_map (λ numbers. numbers.items) numbers ≡ line_numbers (texts_of words.now)) }
 {
     let mut numbers = Vec::new(alloc);

@@ -6,7 +6,7 @@ ghost use Rattle.qpu_token.specs.Words.{is_name_byte};
 ghost use Rattle.qpu_job.specs.Words.{texts_of, name_of, line_numbers};
 ghost use Rattle.qpu_job.specs.Shapes.{said, Data, opening_shape, memory_shape, limit_shape, data_shape, program_shape, start_shape, shape_of};
 
-use crate::number::{number_of, numbers_of};
+use crate::number::{number_of, line_numbers};
 use crate::word::is_name;
 use qpu_word::NoMemory;
 use std::alloc::Global;
@@ -130,7 +130,7 @@ fn values_at<'a>(
 ) -> Result<Option<Shape<'a>>, NoMemory>
     ensures { IfOk result (λ shape. option_map said shape ≡ option_map (Data address) (line_numbers (texts_of values.now))) }
 {
-    match numbers_of(alloc, values)? {
+    match line_numbers(alloc, values)? {
         None => Ok(None),
         Some(values) => Ok(Some(Shape::Data(address, values))),
     }

@@ -7,10 +7,11 @@ ghost use Rattle.qpu_shared.specs.Instruction.{pending_of};
 ghost use Rattle.qpu_shared.specs.Moves.{vpm_loaded, memory_stored, with_pending, unit_looks, load_moved, store_moved, fetch_moved};
 ghost use Rattle.qpu_shared.specs.Views.{IsFitting};
 
-use crate::shared::{Shared, UNITS};
+use crate::shared::Shared;
 use qpu_dma::{LoadPlan, StorePlan, Transfer};
 use qpu_mem::Memory;
 use qpu_vpm::Vpm;
+use qpu_word::code::TMU_UNITS;
 use qpu_word::{LANES, Lanes};
 
 /// Carries all pairs of a load, which fits, from memory to the VPM.
@@ -125,7 +126,7 @@ impl Shared {
         ensures look { option_map (λ at. at.v) result ≡ next_look (unit_looks (pending_of self.now q) u) }
         ensures there { IsSome result → (q < 12) × (u < 2) }
     {
-        if u >= UNITS {
+        if u >= TMU_UNITS {
             return None;
         }
         self.pending.get(q as usize)?.looks.next(u)

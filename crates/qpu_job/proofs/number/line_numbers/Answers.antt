@@ -1,6 +1,6 @@
 use Rattle.std.proofs.Common.{sym, arith}
 use Rattle.qpu_job.proofs.WordLemmas.{numbers_more, numbers_none, numbers_done}
-use Rattle.qpu_job.proofs.number.numbers_of.Goals as goal
+use Rattle.qpu_job.proofs.number.line_numbers.Goals as goal
 
 pub returns-in-None : goal.returns-in-None
 returns-in-None c =

@@ -2,7 +2,7 @@
 use Rattle.std.proofs.Common.{◌≡◌, drop}
 use Rattle.qpu_job.specs.Words.{line_numbers, texts_of}
 use Rattle.qpu_job.proofs.WordLemmas.{with_numbers}
-use Rattle.qpu_job.proofs.number.numbers_of.Given as goal
+use Rattle.qpu_job.proofs.number.line_numbers.Given as goal
 
 abbrev pub invariant-loop-word : goal.invariant-loop-word
 invariant-loop-word l =
