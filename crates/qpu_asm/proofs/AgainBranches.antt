@@ -36,7 +36,7 @@ use Rattle.qpu_asm.specs.Roles.{is_mnemonic}
 use Rattle.qpu_asm.specs.SectionTokens.{SectionTokens}
 use Rattle.qpu_asm.specs.Marks.{mark, target_place, somewhere, if_link, place_mark, branch_marks, jump_marks, jumping_marks, part_marks, marks_of}
 use Rattle.qpu_asm.specs.Judging.{cross, line_fault}
-use Rattle.qpu_asm.specs.Meanings.{place_of, branch_condition_in, distance, row_of, row_part, first_told, link_in, branch_of_part, meaning}
+use Rattle.qpu_asm.specs.Meanings.{place_of, branch_condition_in, distance, target_row, row_part, first_told, link_in, branch_of_part, meaning}
 use Rattle.qpu_asm.specs.LinesRead.{read_line}
 use Rattle.qpu_asm.proofs.AgainSpelled.{Spelled, symbols_append}
 use Rattle.qpu_asm.proofs.AgainPieces.{place_by, ends_stops, maybe_suffix, Suffixed, suffix_read, SaysCore, target_core_read, target_no_dot, jump_number}
@@ -226,7 +226,7 @@ row_back (Some p) None t h = refl
 row_back None (Some row) t h = rw h.1 refl
 row_back (Some p) (Some row) t h = rw h.1 refl
 
-register_back : (c : Core) (n : ℕ) (told o : Option ℕ) → c ≡ core.Number n → told ≡ o → option_or (row_of c) told ≡ o
+register_back : (c : Core) (n : ℕ) (told o : Option ℕ) → c ≡ core.Number n → told ≡ o → option_or (target_row c) told ≡ o
 register_back c n told o e f = rw (e, f) refl
 
 same_branch : (b : Branch) (cond : ℕ) (relative : Bool) (row : Option ℕ) (add mul : Place) (immediate : ℕ) → cond ≡ b.cond → relative ≡ b.relative → row ≡ b.register
@@ -243,7 +243,7 @@ unfolding meaning branch_of_part
 branch_says at b v l t is says link row =
     let later : List Part = link_parts l ++ row_parts b.register t in
     ap (λ z. instruction.Branch z)
-    (same_branch b (branch_condition_in v.suffix) v.relative (option_or (row_of v.target.core) (first_told row_part later)) (place_of v.to.core) (link_in later) (distance v.relative at v.target.core)
+    (same_branch b (branch_condition_in v.suffix) v.relative (option_or (target_row v.target.core) (first_told row_part later)) (place_of v.to.core) (link_in later) (distance v.relative at v.target.core)
     (condition_by b.cond (nat_lt b.cond 12) v.suffix refl is.cond is.known says.condition) says.relative
     (register_back v.target.core b.immediate (first_told row_part later) b.register says.target (row_back l b.register t row))
     (place_by (target_place v.to.core) b.add _ says.to.place) (link_back (is_nowhere b.mul) b.mul l b.register t refl link)

@@ -11,7 +11,7 @@ use Rattle.qpu_line.specs.declared.part.Part.{Part as UnitDoes}
 use Rattle.qpu_line.specs.declared.units.Signal.{Signal}
 use Rattle.qpu_line.specs.declared.units.Signal.TheVariants.{Nothing, End, Load0, Load1, Rotate}
 use Rattle.qpu_line.specs.declared.slots.UnitFields.{UnitFields}
-use Rattle.qpu_line.specs.Targets.{target_of, address_of, in_file_a, in_file_b}
+use Rattle.qpu_line.specs.Targets.{target_at_address, address_of, in_file_a, in_file_b}
 use Rattle.qpu_line.specs.Units.{part_uses, signal_of, other_read, op_of, cond_of, first_of, second_of, mux_of}
 use Rattle.qpu_line.specs.Worded.{IsTarget}
 use Rattle.qpu_line.specs.Both.{IsOperand, IsPart}
@@ -34,11 +34,11 @@ file_b_of true false a = refl
 file_b_of false in_b a = refl
 
 a_held : (in_b : Bool) (p : Place) → IsTarget in_b p → in_file_a p ≡ (file_matters (address_of p) && not in_b)
-unfolding target_of
+unfolding target_at_address
 a_held in_b p is = ap in_file_a (sym is) ∙ file_a_of (file_matters (address_of p)) in_b (address_of p)
 
 b_held : (in_b : Bool) (p : Place) → IsTarget in_b p → in_file_b p ≡ (file_matters (address_of p) && in_b)
-unfolding target_of
+unfolding target_at_address
 b_held in_b p is = ap in_file_b (sym is) ∙ file_b_of (file_matters (address_of p)) in_b (address_of p)
 
 crossed : (m n e : Bool) → (((m && not e) && (n && not (not e))) || ((m && e) && (n && not e))) ≡ false

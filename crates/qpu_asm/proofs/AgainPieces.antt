@@ -22,7 +22,7 @@ use Rattle.qpu_asm.specs.Expressions.{length_from, expression_length}
 use Rattle.qpu_asm.specs.declared.expression.Due.TheVariants.{Sign}
 use Rattle.qpu_asm.specs.Pieces.{named, is_minus, is_dot, is_comma, is_colon, stops, name_alone, alone, bare, length_of, target_of_length, value_of_length, target_core, value_core, operand_core, has_dot, jump_core, suffix_at, suffix_behind, suffix_of, target_at, operand_at}
 use Rattle.qpu_asm.specs.Parts.{suffixes_at}
-use Rattle.qpu_asm.specs.Roles.{target_of}
+use Rattle.qpu_asm.specs.Roles.{target_meant}
 use Rattle.qpu_asm.specs.Marks.{target_place, somewhere}
 use Rattle.qpu_asm.proofs.AgainSpelled.{Spelled}
 
@@ -244,19 +244,19 @@ suffixes_read (Some n) true bits (x ∷ y ∷ z ∷ w ∷ mid) rest h calm =
 -- how a target is written
 data NamedAs : List Bit → Place → Type 0 where
   nowhere : NamedAs (Dash ∷ []) (Both 39)
-  somewhere_named : (n : Name) (to : Place) → target_of n ≡ Some to → NamedAs (Word n ∷ []) to
+  somewhere_named : (n : Name) (to : Place) → target_meant n ≡ Some to → NamedAs (Word n ∷ []) to
 
 nowhere_by : (n : ℕ) → (n == 39) ≡ true → NamedAs (Dash ∷ []) (Both n)
 nowhere_by n e = let is : n ≡ 39 = grind (arith, nat_tests, e) in rw is nowhere
 
-accumulator_by : (n : ℕ) → (nat_le 32 n && nat_le n 35) ≡ true → target_of (name.Register (register.Accumulator (n - 32))) ≡ Some (Both n)
+accumulator_by : (n : ℕ) → (nat_le 32 n && nat_le n 35) ≡ true → target_meant (name.Register (register.Accumulator (n - 32))) ≡ Some (Both n)
 accumulator_by n e =
     let near : nat_lt (n - 32) 4 ≡ true = grind (arith, nat_tests, e) in
     let low : 32 ≤ n = grind (arith, nat_tests, e) in
     let back : 32 + (n - 32) ≡ n = omega arith in
     rw (near, back) refl
 
-vpm_by : (n : ℕ) → (n == 48) ≡ true → target_of (name.Register register.Vpm) ≡ Some (Both n)
+vpm_by : (n : ℕ) → (n == 48) ≡ true → target_meant (name.Register register.Vpm) ≡ Some (Both n)
 vpm_by n e = let is : n ≡ 48 = grind (arith, nat_tests, e) in rw is refl
 
 both_named : (n : ℕ) (a b c : Bool) → (n == 39) ≡ a → (nat_le 32 n && nat_le n 35) ≡ b → (n == 48) ≡ c
@@ -296,7 +296,7 @@ place_by o to other e = rw e refl
 says_nowhere : SaysCore (Both 39) core.Nowhere
 says_nowhere = record { place = refl; there = λ no. absurd (no refl) }
 
-says_name : (n : Name) (to : Place) → target_of n ≡ Some to → SaysCore to (core.Name n)
+says_name : (n : Name) (to : Place) → target_meant n ≡ Some to → SaysCore to (core.Name n)
 says_name n to e = record { place = e; there = λ _. e }
 
 target_by : (end : Token) (own : List Bit) (to : Place) (bits : List Bit) (xs rest : List Placed) → NamedAs own to

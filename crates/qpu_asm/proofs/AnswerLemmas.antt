@@ -12,7 +12,7 @@ use Rattle.qpu_expr.specs.Expansion.{Left, expansion}
 use Rattle.qpu_expr.specs.Answer.{IsItsFault as IsExpansionFault}
 use Rattle.qpu_asm.specs.declared.stop.Stop.{Stop}
 use Rattle.qpu_asm.specs.declared.stop.Stop.TheVariants.{Fault, Memory}
-use Rattle.qpu_asm.specs.Answers.{answered, StopsAt}
+use Rattle.qpu_asm.specs.Answers.{answered, StopsBy}
 use Rattle.qpu_asm.specs.Assembly.{and_then, encoding, assembled, IsAssembly, IsItsFault}
 
 abbrev is_memory : AsmKind → Bool
@@ -38,6 +38,6 @@ expansion_fault text tokens fault t (inr e) = inr (IsAssembly.read t (rw e refl)
 pub words_due : (text : List ℕ) (tokens : List Token) (left : Left) (words : List ℕ) → AreTokens text tokens → expansion text tokens ≡ Ok left → encoding text left ≡ Ok words → IsAssembly text (Ok words)
 words_due text tokens left words t e w = IsAssembly.read t (rw e w)
 
-pub stop_due : (text : List ℕ) (tokens : List Token) (left : Left) (stop : Stop) → AreTokens text tokens → expansion text tokens ≡ Ok left → StopsAt (encoding text left) stop → IsItsFault text (answered stop)
+pub stop_due : (text : List ℕ) (tokens : List Token) (left : Left) (stop : Stop) → AreTokens text tokens → expansion text tokens ≡ Ok left → StopsBy (encoding text left) stop → IsItsFault text (answered stop)
 stop_due text tokens left (Fault fault) t e s = inr (IsAssembly.read t (rw e s))
 stop_due text tokens left Memory t e s = inl refl

@@ -22,7 +22,7 @@ use Rattle.qpu_asm.specs.Orders.{is_rotation}
 use Rattle.qpu_asm.specs.Meanings.{number_of, signal_in, address_a, address_b, address_of_source, other_a_part, other_b_part, first_told}
 use Rattle.qpu_asm.proofs.GoodNames.{IsPlain, source_good}
 use Rattle.qpu_asm.proofs.MarkLemmas.{Has}
-use Rattle.qpu_asm.proofs.ProperParts.{Each, GoodCore, IsQuiet, GoodPart}
+use Rattle.qpu_asm.proofs.ProperParts.{Each, GoodCore, IsPlainSignal, GoodPart}
 use Rattle.qpu_asm.proofs.GrowLemmas.{grown_old, grows_rotation, later_marks, later_first, later_rest}
 use Rattle.qpu_asm.proofs.TestLemmas.{some_or}
 
@@ -35,7 +35,7 @@ SignalSaid U signal.Load0 = Has what.Signals U
 SignalSaid U signal.Load1 = Has what.Signals U
 SignalSaid U (signal.Rotate code) = Has what.Rotates U × (between 48 code 63 ≡ true)
 
-quiet_said : (U : List Mark) (s : Signal) → IsQuiet s → Has what.Signals U → SignalSaid U s
+quiet_said : (U : List Mark) (s : Signal) → IsPlainSignal s → Has what.Signals U → SignalSaid U s
 quiet_said U signal.Nothing quiet has = tt
 quiet_said U signal.End quiet has = has
 quiet_said U signal.Load0 quiet has = has
@@ -75,7 +75,7 @@ abbrev pub is_turn : Signal → Bool
 is_turn (signal.Rotate code) = true
 is_turn _ = false
 
-quiet_turn : (s : Signal) → IsQuiet s → is_turn s ≡ true → ⊥
+quiet_turn : (s : Signal) → IsPlainSignal s → is_turn s ≡ true → ⊥
 quiet_turn (signal.Rotate code) quiet turn = quiet
 quiet_turn _ quiet turn = grind (arith, turn)
 

@@ -17,7 +17,7 @@ use Rattle.qpu_line.specs.declared.name.Register.{Register}
 use Rattle.qpu_line.specs.declared.name.Register.TheVariants as register
 use Rattle.qpu_line.specs.Names.{IsRowName, IsNameOfLanguage}
 use Rattle.qpu_line.specs.Named.{is_source}
-use Rattle.qpu_asm.specs.Roles.{target_register, target_of, source_register, source_of, pack_of, unpack_of}
+use Rattle.qpu_asm.specs.Roles.{target_register, target_meant, source_register, source_of, pack_of, unpack_of}
 use Rattle.qpu_asm.specs.Meanings.{condition_of, branch_condition_of}
 
 -- a write address with a name, and its file where that matters
@@ -75,7 +75,7 @@ register_placed register.Vpm good = refl
 register_placed (register.Source p) good = tt
 register_placed (register.Target p) good = good
 
-pub target_good : (n : Name) → is_good n ≡ true → IfSome (target_of n) (λ p. is_placed p ≡ true)
+pub target_good : (n : Name) → is_good n ≡ true → IfSome (target_meant n) (λ p. is_placed p ≡ true)
 target_good (name.Register r) good = register_placed r good
 target_good _ good = tt
 

@@ -32,10 +32,10 @@ use Rattle.qpu_asm.specs.Meanings.{place_of, unit_of, mul_in, unit_does, unit_se
 use Rattle.qpu_asm.specs.LinesRead.{word_number, directive_symbol, directive, by_fault, by_parts, by_unknown, instruction_line, shaped, read_line}
 use Rattle.qpu_asm.specs.Laws.{IsProper}
 use Rattle.std.proofs.lemmas.List.Elements.{All-cons}
-use Rattle.qpu_asm.specs.Placed.{Labels, placed}
+use Rattle.qpu_asm.specs.Placed.{Labels, placed_token}
 use Rattle.qpu_asm.proofs.ProperTokens.{placed_proper}
 use Rattle.qpu_asm.proofs.MarkLemmas.{Has, has_left, has_right, Before, before_join, before_left, IsClear, is_clear}
-use Rattle.qpu_asm.proofs.ProperParts.{Each, GoodUnit, GoodPart, Good, Gives, gives_on}
+use Rattle.qpu_asm.proofs.ProperParts.{Each, GoodUnit, GoodPart, Good, GivesPart, gives_on}
 use Rattle.qpu_asm.proofs.ProperLines.{all_good, has_second, FitsAdd, IsOrdered, GoodParts, line_good}
 use Rattle.qpu_asm.proofs.GrowLemmas.{grows_part, later_marks, grows_later}
 use Rattle.qpu_asm.proofs.ShortLaws.{increments_have_words, decrements_have_words, loads_have_words, branches_have_words}
@@ -285,12 +285,12 @@ judged at first later (Some fault) good is = tt
 judged at first later None good is =
     meaning_has_word at first later good.each.0 good.ordered.0 good.ordered.1 good.each.1 (is_clear (marks_of (first ∷ later)) is)
 
-parts_have_word : (at : ℕ) (end : Token) (r : Result (List Part) Token) → Gives GoodParts r → LineHasWord (by_parts at end r)
+parts_have_word : (at : ℕ) (end : Token) (r : Result (List Part) Token) → GivesPart GoodParts r → LineHasWord (by_parts at end r)
 parts_have_word at end (Err token) good = tt
 parts_have_word at end (Ok []) good = tt
 parts_have_word at end (Ok (first ∷ later)) good = judged at first later (line_fault (marks_of (first ∷ later))) good refl
 
-known_have_word : (at : ℕ) (end : Token) (sections : List SectionTokens) (o : Option Token) → Gives GoodParts (parts_of sections) → LineHasWord (by_unknown at end sections o)
+known_have_word : (at : ℕ) (end : Token) (sections : List SectionTokens) (o : Option Token) → GivesPart GoodParts (parts_of sections) → LineHasWord (by_unknown at end sections o)
 known_have_word at end sections (Some token) good = tt
 known_have_word at end sections None good = parts_have_word at end (parts_of sections) good
 
@@ -304,20 +304,20 @@ abbrev IsRaw : Line → Type 0
 IsRaw (Raw n) = Unit {0}
 IsRaw (Says i) = ⊥
 
-raw_symbol : (s : Symbol) (dot end : Token) (rest : List Placed) → Gives IsRaw (directive_symbol s dot end rest)
+raw_symbol : (s : Symbol) (dot end : Token) (rest : List Placed) → GivesPart IsRaw (directive_symbol s dot end rest)
 raw_symbol (symbol.Name name.Word) dot end rest = gives_on (λ n. Unit {0}) IsRaw (word_number end rest) (λ n. Ok (Raw n)) (any (word_number end rest)) (λ n is. tt)
   where
-    any : (r : Result ℕ Token) → Gives (λ n. Unit {0}) r
+    any : (r : Result ℕ Token) → GivesPart (λ n. Unit {0}) r
     any (Ok n) = tt
     any (Err token) = tt
 raw_symbol (symbol.Name name.Set) dot end rest = tt
 raw_symbol _ dot end rest = tt
 
-raw_directive : (dot end : Token) (rest : List Placed) → Gives IsRaw (directive dot end rest)
+raw_directive : (dot end : Token) (rest : List Placed) → GivesPart IsRaw (directive dot end rest)
 raw_directive dot end [] = tt
 raw_directive dot end (x ∷ rest) = raw_symbol x.symbol dot end rest
 
-raw_has_word : (r : Result Line Token) → Gives IsRaw r → LineHasWord (shaped r)
+raw_has_word : (r : Result Line Token) → GivesPart IsRaw r → LineHasWord (shaped r)
 raw_has_word (Ok (Raw n)) raw = tt
 raw_has_word (Ok (Says i)) raw = absurd raw
 raw_has_word (Err token) raw = tt
@@ -337,10 +337,10 @@ line_has_word at end (x ∷ rest) good =
 pub lines_law : (at : ℕ) (end : Token) (xs : List Placed) (i : Instruction) → All IsProper xs → read_line at end xs ≡ Ok (Says i) → HasWord i
 lines_law at end xs i proper e = subst LineHasWord e (line_has_word at end xs (all_good xs proper))
 
-all_placed : (text : List ℕ) (labels : Labels) (tokens : List Token) → All IsProper (map (placed text labels) tokens)
+all_placed : (text : List ℕ) (labels : Labels) (tokens : List Token) → All IsProper (map (placed_token text labels) tokens)
 all_placed text labels [] = λ k d low. absurd (omega arith)
-all_placed text labels (t ∷ tokens) = All-cons IsProper (placed text labels t) (map (placed text labels) tokens) (placed_proper text labels t) (all_placed text labels tokens)
+all_placed text labels (t ∷ tokens) = All-cons IsProper (placed_token text labels t) (map (placed_token text labels) tokens) (placed_proper text labels t) (all_placed text labels tokens)
 
 pub text_lines_law : (text : List ℕ) (labels : Labels) (at : ℕ) (end : Token) (tokens : List Token) (i : Instruction)
-    → read_line at end (map (placed text labels) tokens) ≡ Ok (Says i) → HasWord i
-text_lines_law text labels at end tokens i e = lines_law at end (map (placed text labels) tokens) i (all_placed text labels tokens) e
+    → read_line at end (map (placed_token text labels) tokens) ≡ Ok (Says i) → HasWord i
+text_lines_law text labels at end tokens i e = lines_law at end (map (placed_token text labels) tokens) i (all_placed text labels tokens) e

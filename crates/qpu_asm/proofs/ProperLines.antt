@@ -18,7 +18,7 @@ use Rattle.qpu_asm.specs.SectionTokens.{SectionTokens}
 use Rattle.qpu_asm.specs.Sections.{is_semicolon, Cutting, nothing_cut, put_section, cut_on, sections_of, part_after_symbol, part_after, parts_on, parts_of}
 use Rattle.qpu_asm.specs.Laws.{IsProperSymbol, IsProper}
 use Rattle.qpu_asm.proofs.GoodNames.{name_good}
-use Rattle.qpu_asm.proofs.ProperParts.{Each, each_append, GoodPart, GoodSymbol, GoodPlaced, Good, Gives, gives_on, is_op, is_rotate, IsMade, part_good}
+use Rattle.qpu_asm.proofs.ProperParts.{Each, each_append, GoodPart, GoodSymbol, GoodPlaced, Good, GivesPart, gives_on, is_op, is_rotate, IsMade, part_good}
 use Rattle.qpu_asm.proofs.TestLemmas.{both_true}
 
 -- tokens
@@ -237,32 +237,32 @@ abbrev IsDue : List Part → Part → Type 0
 IsDue earlier p = (n : Name) × (due earlier n ≡ true) × IsMade n p
 
 due_by : (earlier : List Part) (n : Name) (b : Bool) (token end : Token) (xs : List Placed) → Good xs → due earlier n ≡ b
-    → Gives (IsDue earlier) (if b then part_by n token end xs else Err token)
+    → GivesPart (IsDue earlier) (if b then part_by n token end xs else Err token)
 due_by earlier n true token end xs good is = made (part_by n token end xs) (part_good n token end xs good)
   where
-    made : (r : Result Part Token) → Gives (IsMade n) r → Gives (IsDue earlier) r
+    made : (r : Result Part Token) → GivesPart (IsMade n) r → GivesPart (IsDue earlier) r
     made (Ok p) g = (n, is, g)
     made (Err t) g = tt
 due_by earlier n false token end xs good is = tt
 
-symbol_due : (earlier : List Part) (s : Symbol) (token end : Token) (xs : List Placed) → Good xs → Gives (IsDue earlier) (part_after_symbol earlier s token end xs)
+symbol_due : (earlier : List Part) (s : Symbol) (token end : Token) (xs : List Placed) → Good xs → GivesPart (IsDue earlier) (part_after_symbol earlier s token end xs)
 symbol_due earlier (symbol.Name n) token end xs good = due_by earlier n (due earlier n) token end xs good refl
 symbol_due earlier _ token end xs good = tt
 
-part_due : (earlier : List Part) (end : Token) (xs : List Placed) → Good xs → Gives (IsDue earlier) (part_after earlier end xs)
+part_due : (earlier : List Part) (end : Token) (xs : List Placed) → Good xs → GivesPart (IsDue earlier) (part_after earlier end xs)
 part_due earlier end [] good = tt
 part_due earlier end (x ∷ xs) good = symbol_due earlier x.symbol x.token end xs good.1
 
-parts_more : (read : Result (List Part) Token) (s : SectionTokens) → Gives GoodParts read → GoodSection s → Gives GoodParts (parts_on read s)
+parts_more : (read : Result (List Part) Token) (s : SectionTokens) → GivesPart GoodParts read → GoodSection s → GivesPart GoodParts (parts_on read s)
 parts_more read s good section =
     gives_on GoodParts GoodParts read _ good
     (λ earlier is. gives_on (IsDue earlier) GoodParts (part_after earlier s.end s.tokens) _ (part_due earlier s.end s.tokens section)
     (λ p made. record { each = each_append GoodPart earlier (p ∷ []) is.each (made.2.good, tt); ordered = line_end earlier made.0 p is.ordered made.1 made.2 }))
 
-parts_fold : (read : Result (List Part) Token) (sections : List SectionTokens) → Gives GoodParts read → Each GoodSection sections → Gives GoodParts (fold parts_on read sections)
+parts_fold : (read : Result (List Part) Token) (sections : List SectionTokens) → GivesPart GoodParts read → Each GoodSection sections → GivesPart GoodParts (fold parts_on read sections)
 parts_fold read [] good each = good
 parts_fold read (s ∷ sections) good each = parts_fold (parts_on read s) sections (parts_more read s good each.0) each.1
 
-pub line_good : (end : Token) (xs : List Placed) → Good xs → Gives GoodParts (parts_of (sections_of end xs))
+pub line_good : (end : Token) (xs : List Placed) → Good xs → GivesPart GoodParts (parts_of (sections_of end xs))
 unfolding parts_of
 line_good end xs good = parts_fold (Ok []) (sections_of end xs) (record { each = tt; ordered = tt }) (sections_good end xs good)

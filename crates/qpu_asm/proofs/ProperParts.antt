@@ -90,9 +90,9 @@ pub record GoodBranch (b : BranchPart) : Type 0 where
   pub target : GoodPiece b.target
 
 -- a signal that isn't a rotation
-abbrev pub IsQuiet : Signal → Type 0
-IsQuiet (signal.Rotate code) = ⊥
-IsQuiet _ = Unit {0}
+abbrev pub IsPlainSignal : Signal → Type 0
+IsPlainSignal (signal.Rotate code) = ⊥
+IsPlainSignal _ = Unit {0}
 
 abbrev pub GoodPart : Part → Type 0
 GoodPart part.Nop = Unit {0}
@@ -104,7 +104,7 @@ GoodPart (part.Decrement p) = GoodPiece p
 GoodPart (part.Branch b) = GoodBranch b
 GoodPart (part.Link p) = GoodPiece p
 GoodPart (part.Row p) = GoodPiece p
-GoodPart (part.Signal s token) = IsQuiet s
+GoodPart (part.Signal s token) = IsPlainSignal s
 GoodPart (part.Rotate token p) = GoodPiece p
 GoodPart (part.ReadA p) = GoodPiece p
 GoodPart (part.ReadB p) = GoodPiece p
@@ -123,23 +123,23 @@ Good xs = Each GoodPlaced xs
 
 -- what is read, where it is
 
-abbrev pub Gives : {A : Type 0} → (A → Type 0) → Result A Token → Type 0
-Gives P (Ok a) = P a
-Gives P (Err token) = Unit {0}
+abbrev pub GivesPart : {A : Type 0} → (A → Type 0) → Result A Token → Type 0
+GivesPart P (Ok a) = P a
+GivesPart P (Err token) = Unit {0}
 
 abbrev pub GivesRead : {A : Type 0} → (A → Type 0) → Read A → Type 0
-GivesRead {A} P r = Gives (λ (p : A × List Placed). P p.0 × Good p.1) r
+GivesRead {A} P r = GivesPart (λ (p : A × List Placed). P p.0 × Good p.1) r
 
 pub gives_on : {A B : Type 0} (P : A → Type 0) (Q : B → Type 0) (r : Result A Token) (next : A → Result B Token)
-    → Gives P r → ((a : A) → P a → Gives Q (next a)) → Gives Q (go_on r next)
+    → GivesPart P r → ((a : A) → P a → GivesPart Q (next a)) → GivesPart Q (go_on r next)
 gives_on P Q (Ok a) next g f = f a g
 gives_on P Q (Err token) next g f = tt
 
-pub gives_ended : {A : Type 0} (P : A → Type 0) (a : A) (xs : List Placed) → P a → Gives P (ended a xs)
+pub gives_ended : {A : Type 0} (P : A → Type 0) (a : A) (xs : List Placed) → P a → GivesPart P (ended a xs)
 gives_ended P a [] holds = holds
 gives_ended P a (x ∷ xs) holds = tt
 
-gives_if : {A : Type 0} (P : A → Type 0) (b : Bool) (r s : Result A Token) → (b ≡ true → Gives P r) → (b ≡ false → Gives P s) → Gives P (if b then r else s)
+gives_if : {A : Type 0} (P : A → Type 0) (b : Bool) (r s : Result A Token) → (b ≡ true → GivesPart P r) → (b ≡ false → GivesPart P s) → GivesPart P (if b then r else s)
 gives_if P true r s then_so else_so = then_so refl
 gives_if P false r s then_so else_so = else_so refl
 
@@ -235,7 +235,7 @@ operand_good : (end : Token) (xs : List Placed) → Good xs → GivesRead GoodPi
 unfolding operand_at
 operand_good end xs good = with_suffix_good (operand_core end xs) (operand_core_good end xs good)
 
-comma_good : (end : Token) (xs : List Placed) → Good xs → Gives Good (comma_at end xs)
+comma_good : (end : Token) (xs : List Placed) → Good xs → GivesPart Good (comma_at end xs)
 comma_good end [] good = tt
 comma_good end (x ∷ rest) good = gives_if _ (is_comma x.symbol) (Ok rest) (Err x.token) (λ _. good.1) (λ _. tt)
 
@@ -263,11 +263,11 @@ suffixes_good xs good =
 abbrev IsSamePair : Bool → Piece × Piece → Type 0
 IsSamePair one both = GoodPiece both.0 × GoodPiece both.1 × (one ≡ true → both.1 ≡ both.0)
 
-one_good : (end : Token) (xs : List Placed) → Good xs → Gives (IsSamePair true) (one_operand end xs)
+one_good : (end : Token) (xs : List Placed) → Good xs → GivesPart (IsSamePair true) (one_operand end xs)
 unfolding one_operand
 one_good end xs good = gives_on OfPiece (IsSamePair true) (operand_at end xs) _ (operand_good end xs good) (λ a first. gives_ended (IsSamePair true) (a.0, a.0) a.1 (first.0, first.0, λ _. refl))
 
-two_good : (end : Token) (xs : List Placed) → Good xs → Gives (IsSamePair false) (two_operands end xs)
+two_good : (end : Token) (xs : List Placed) → Good xs → GivesPart (IsSamePair false) (two_operands end xs)
 unfolding two_operands
 two_good end xs good =
     gives_on OfPiece (IsSamePair false) (operand_at end xs) _ (operand_good end xs good)
@@ -275,7 +275,7 @@ two_good end xs good =
     (λ rest left. gives_on OfPiece (IsSamePair false) (operand_at end rest) _ (operand_good end rest left)
     (λ b second. gives_ended (IsSamePair false) (a.0, b.0) b.1 (first.0, second.0, λ e. absurd (grind (arith, e))))))
 
-operands_by : (one : Bool) (end : Token) (xs : List Placed) → Good xs → Gives (IsSamePair one) (if one then one_operand end xs else two_operands end xs)
+operands_by : (one : Bool) (end : Token) (xs : List Placed) → Good xs → GivesPart (IsSamePair one) (if one then one_operand end xs else two_operands end xs)
 operands_by true end xs good = one_good end xs good
 operands_by false end xs good = two_good end xs good
 
@@ -301,7 +301,7 @@ pub record IsMade (n : Name) (p : Part) : Type 0 where
   pub rotation : is_rotation p ≡ is_rotate n
   pub op : HasOp n p
 
-unit_good : (n : Name) (token end : Token) (xs : List Placed) → Good xs → is_op n ≡ true → is_rotate n ≡ false → Gives (IsMade n) (unit_part n token end xs)
+unit_good : (n : Name) (token end : Token) (xs : List Placed) → Good xs → is_op n ≡ true → is_rotate n ≡ false → GivesPart (IsMade n) (unit_part n token end xs)
 unfolding unit_part
 unit_good n token end xs good op other =
     gives_on OfSuffixes (IsMade n) (suffixes_at xs) _ (suffixes_good xs good)
@@ -310,7 +310,7 @@ unit_good n token end xs good op other =
     (λ rest left. gives_on (IsSamePair (takes_one n)) (IsMade n) (operands_at n end rest) _ (operands_by (takes_one n) end rest left)
     (λ both pair. record { good = record { suffixes = suffixes.0; to = target.0; a = pair.0; b = pair.1; twice = pair.2 }; unit = sym op; rotation = sym other; op = refl }))))
 
-load_good : (kind : LoadKind) (end : Token) (xs : List Placed) → Good xs → Gives (IsMade (name.Load kind)) (load_part kind end xs)
+load_good : (kind : LoadKind) (end : Token) (xs : List Placed) → Good xs → GivesPart (IsMade (name.Load kind)) (load_part kind end xs)
 unfolding load_part
 load_good kind end xs good =
     let M : Part → Type 0 = IsMade (name.Load kind) in
@@ -321,7 +321,7 @@ load_good kind end xs good =
     (λ value number. gives_ended M _ value.1
     (record { good = record { suffixes = suffixes.0; to = target.0; value = number.0 }; unit = refl; rotation = refl; op = tt })))))
 
-also_good : (end : Token) (xs : List Placed) → Good xs → Gives (IsMade name.Also) (also_part end xs)
+also_good : (end : Token) (xs : List Placed) → Good xs → GivesPart (IsMade name.Also) (also_part end xs)
 unfolding also_part
 also_good end xs good =
     let M : Part → Type 0 = IsMade name.Also in
@@ -329,7 +329,7 @@ also_good end xs good =
     (λ s suffix. gives_on OfPiece M (target_core end s.1) _ (target_core_good end s.1 suffix.1)
     (λ to target. gives_ended M _ to.1 (record { good = record { suffix = suffix.0; to = target.0 }; unit = refl; rotation = refl; op = tt })))
 
-branch_good : (n : Name) (relative : Bool) (end : Token) (xs : List Placed) → Good xs → is_op n ≡ false → is_rotate n ≡ false → Gives (IsMade n) (branch_part relative end xs)
+branch_good : (n : Name) (relative : Bool) (end : Token) (xs : List Placed) → Good xs → is_op n ≡ false → is_rotate n ≡ false → GivesPart (IsMade n) (branch_part relative end xs)
 unfolding branch_part
 branch_good n relative end xs good op turn =
     let M : Part → Type 0 = IsMade n in
@@ -340,15 +340,15 @@ branch_good n relative end xs good op turn =
     (λ jump where_to. gives_ended M _ jump.1
     (record { good = record { suffix = suffix.0; to = target.0; target = where_to.0 }; unit = sym op; rotation = sym turn; op = tt })))))
 
-last_value_good : (end : Token) (xs : List Placed) → Good xs → Gives GoodPiece (last_value end xs)
+last_value_good : (end : Token) (xs : List Placed) → Good xs → GivesPart GoodPiece (last_value end xs)
 unfolding last_value
 last_value_good end xs good = gives_on OfPiece GoodPiece (value_core end xs) _ (value_core_good end xs good) (λ p is. gives_ended GoodPiece p.0 p.1 is.0)
 
-last_name_good : (end : Token) (xs : List Placed) → Good xs → Gives GoodPiece (last_name end xs)
+last_name_good : (end : Token) (xs : List Placed) → Good xs → GivesPart GoodPiece (last_name end xs)
 unfolding last_name
 last_name_good end xs good = gives_on OfPiece GoodPiece (target_core end xs) _ (target_core_good end xs good) (λ p is. gives_ended GoodPiece p.0 p.1 is.0)
 
-pub part_good : (n : Name) (token end : Token) (xs : List Placed) → Good xs → Gives (IsMade n) (part_by n token end xs)
+pub part_good : (n : Name) (token end : Token) (xs : List Placed) → Good xs → GivesPart (IsMade n) (part_by n token end xs)
 unfolding part_by
 part_good (name.Add op) token end xs good = unit_good (name.Add op) token end xs good refl refl
 part_good (name.Mul op) token end xs good = unit_good (name.Mul op) token end xs good refl refl

@@ -13,7 +13,7 @@ use Rattle.qpu_line.specs.declared.name.Register.{Register}
 use Rattle.qpu_line.specs.declared.name.Register.TheVariants.{RowA, RowB}
 use Rattle.qpu_line.specs.Spellings.{spelling}
 use Rattle.qpu_line.specs.Names.{row_number, register_of, found_in, row_or, name_of, IsRowName, IsNameOfLanguage}
-use Rattle.qpu_asm.specs.Placed.{sign_of, name_symbol, symbol_of, Labels, placed}
+use Rattle.qpu_asm.specs.Placed.{sign_of, name_symbol, symbol_of, Labels, placed_token}
 use Rattle.qpu_asm.specs.Laws.{IsProperSymbol, IsProper}
 
 -- rows
@@ -121,6 +121,6 @@ symbol_proper text (kind.Number value) token e = rw e tt
 symbol_proper text kind.Punct token e = rw e (sign_proper _)
 symbol_proper text kind.LineEnd token e = rw e tt
 
-pub placed_proper : (text : List ℕ) (labels : Labels) (token : Token) → IsProper (placed text labels token)
-unfolding placed
+pub placed_proper : (text : List ℕ) (labels : Labels) (token : Token) → IsProper (placed_token text labels token)
+unfolding placed_token
 placed_proper text labels token = symbol_proper text token.kind token refl

@@ -18,19 +18,19 @@ use Rattle.qpu_asm.specs.Judging.{line_fault}
 use Rattle.qpu_asm.specs.Meanings.{meaning}
 use Rattle.qpu_asm.specs.LinesRead.{word_number, number_symbol, directive_symbol, directive, by_fault, by_parts, by_unknown, instruction_line, shaped, read_line}
 use Rattle.qpu_asm.specs.Laws.{symbols_of, word_symbols}
-use Rattle.qpu_asm.proofs.ProperParts.{Gives, gives_on}
+use Rattle.qpu_asm.proofs.ProperParts.{GivesPart, gives_on}
 
 -- what is read is what the symbols are
 
 abbrev IsNumber : List Placed → ℕ → Type 0
 IsNumber xs n = symbols_of xs ≡ symbol.Number n ∷ []
 
-number_by : (s : Symbol) (x : Placed) (rest : List Placed) → x.symbol ≡ s → Gives (IsNumber (x ∷ rest)) (number_symbol s x.token rest)
+number_by : (s : Symbol) (x : Placed) (rest : List Placed) → x.symbol ≡ s → GivesPart (IsNumber (x ∷ rest)) (number_symbol s x.token rest)
 number_by (symbol.Number n) x [] e = ap (λ t. t ∷ []) e
 number_by (symbol.Number n) x (y ∷ rest) e = tt
 number_by _ x rest e = tt
 
-number_read : (end : Token) (xs : List Placed) → Gives (IsNumber xs) (word_number end xs)
+number_read : (end : Token) (xs : List Placed) → GivesPart (IsNumber xs) (word_number end xs)
 number_read end [] = tt
 number_read end (x ∷ rest) = number_by x.symbol x rest refl
 
@@ -43,13 +43,13 @@ joined : (x y : Placed) (rest : List Placed) (n : ℕ) → x.symbol ≡ symbol.D
 joined x y rest n dot word number = cc
 
 directive_by : (s : Symbol) (x y : Placed) (end : Token) (rest : List Placed) → x.symbol ≡ symbol.Dot → y.symbol ≡ s
-    → Gives (IsOf (symbols_of (x ∷ y ∷ rest))) (directive_symbol s x.token end rest)
+    → GivesPart (IsOf (symbols_of (x ∷ y ∷ rest))) (directive_symbol s x.token end rest)
 directive_by (symbol.Name name.Word) x y end rest dot e =
     gives_on (IsNumber rest) (IsOf (symbols_of (x ∷ y ∷ rest))) (word_number end rest) (λ n. Ok (Raw n)) (number_read end rest) (λ n is. joined x y rest n dot e is)
 directive_by (symbol.Name name.Set) x y end rest dot e = tt
 directive_by _ x y end rest dot e = tt
 
-directive_read : (x : Placed) (end : Token) (rest : List Placed) → x.symbol ≡ symbol.Dot → Gives (IsOf (symbols_of (x ∷ rest))) (directive x.token end rest)
+directive_read : (x : Placed) (end : Token) (rest : List Placed) → x.symbol ≡ symbol.Dot → GivesPart (IsOf (symbols_of (x ∷ rest))) (directive x.token end rest)
 directive_read x end [] dot = tt
 directive_read x end (y ∷ rest) dot = directive_by y.symbol x y end rest dot refl
 
@@ -57,7 +57,7 @@ abbrev LineIs : List Symbol → Result Line AsmFault → Type 0
 LineIs symbols (Ok line) = IsOf symbols line
 LineIs symbols (Err fault) = Unit {0}
 
-shaped_is : (symbols : List Symbol) (r : Result Line Token) → Gives (IsOf symbols) r → LineIs symbols (shaped r)
+shaped_is : (symbols : List Symbol) (r : Result Line Token) → GivesPart (IsOf symbols) r → LineIs symbols (shaped r)
 shaped_is symbols (Ok line) is = is
 shaped_is symbols (Err token) is = tt
 

@@ -26,7 +26,7 @@ use Rattle.qpu_asm.specs.declared.mark.What.TheVariants as what
 use Rattle.qpu_asm.specs.declared.mark.Mark.{Mark}
 use Rattle.qpu_asm.specs.Marks.{mark_if, suffix_marks, condition_marks, branch_marks, target_place, place_mark, somewhere, if_link, any_number, number_between, load_marks, also_marks, jump_marks, jumping_marks, part_marks, marks_of}
 use Rattle.qpu_asm.specs.Judging.{cross}
-use Rattle.qpu_asm.specs.Meanings.{condition_in, nowhere, place_of, is_nowhere, number_of, first_told, write_in, also_in, load_of_part, distance, behind_slots, row_of, row_part, link_in, branch_of_part, step}
+use Rattle.qpu_asm.specs.Meanings.{condition_in, nowhere_place, place_of, is_nowhere, number_of, first_told, write_in, also_in, load_of_part, distance, behind_slots, target_row, row_part, link_in, branch_of_part, step}
 use Rattle.qpu_asm.proofs.GoodNames.{is_placed, is_good}
 use Rattle.qpu_asm.proofs.MarkLemmas.{Has, has_left, has_right, Before, before_join, IsClear}
 use Rattle.qpu_asm.proofs.ProperParts.{Each, GoodCore, GoodSuffix, GoodLoad, GoodBranch, GoodPart}
@@ -117,9 +117,9 @@ also_told U (part.ReadB p ∷ later) good inside right = also_told U later good.
 -- two writes of which one stands before the other
 both_fit : (a b : Option Write) (A B : List Mark) → IfSome a (IsWritten A) → IfSome b (IsWritten B)
     → ((p q : Place) → Has (what.Writes p) A → Has (what.Writes q) B → cross p q ≡ false) → TargetsFit (write_target a) (write_target b)
-both_fit None None A B one other apart = targets_fit nowhere nowhere refl refl refl
-both_fit None (Some w) A B one other apart = targets_fit nowhere w.to refl other.placed refl
-both_fit (Some v) None A B one other apart = targets_fit v.to nowhere one.placed refl (cross_nowhere v.to)
+both_fit None None A B one other apart = targets_fit nowhere_place nowhere_place refl refl refl
+both_fit None (Some w) A B one other apart = targets_fit nowhere_place w.to refl other.placed refl
+both_fit (Some v) None A B one other apart = targets_fit v.to nowhere_place one.placed refl (cross_nowhere v.to)
 both_fit (Some v) (Some w) A B one other apart = targets_fit v.to w.to one.placed other.placed (apart v.to w.to one.told other.told)
 
 writes_of : (U : List Mark) (o : Option Write) → IfSome o (IsWritten U) → IfSome o IsWrite
@@ -176,7 +176,7 @@ distance_low relative at core.Nowhere good = omega arith
 abbrev IsRow : ℕ → Type 0
 IsRow n = n < 32
 
-row_register : (r : Register) → is_good (name.Register r) ≡ true → IfSome (row_of (core.Name (name.Register r))) IsRow
+row_register : (r : Register) → is_good (name.Register r) ≡ true → IfSome (target_row (core.Name (name.Register r))) IsRow
 row_register (register.RowA n) good = grind (arith, nat_tests, good)
 row_register (register.RowB n) good = tt
 row_register (register.Accumulator n) good = tt
@@ -184,11 +184,11 @@ row_register register.Vpm good = tt
 row_register (register.Source p) good = tt
 row_register (register.Target p) good = tt
 
-row_name : (n : Name) → is_good n ≡ true → IfSome (row_of (core.Name n)) IsRow
+row_name : (n : Name) → is_good n ≡ true → IfSome (target_row (core.Name n)) IsRow
 row_name (name.Register r) good = row_register r good
 row_name _ good = tt
 
-row_low : (c : Core) → GoodCore c → IfSome (row_of c) IsRow
+row_low : (c : Core) → GoodCore c → IfSome (target_row c) IsRow
 row_low (core.Name n) good = row_name n good
 row_low (core.Number n) good = tt
 row_low core.Unknown good = tt
@@ -209,7 +209,7 @@ record LinksTo (U : List Mark) (p : Place) : Type 0 where
   placed : is_placed p ≡ true
   apart : (q : Place) → ((r : Place) → Has (what.Writes r) U → cross q r ≡ false) → cross q p ≡ false
 
-nowhere_linked : (U : List Mark) → LinksTo U nowhere
+nowhere_linked : (U : List Mark) → LinksTo U nowhere_place
 nowhere_linked U = record { link = refl; placed = refl; apart = λ q none. cross_nowhere q }
 
 link_by : (U : List Mark) (p : Place) → is_placed p ≡ true → IsLink p U → LinksTo U p
@@ -256,7 +256,7 @@ branches_have_words at b later good others clear =
     record {
       cond = cond.0;
       known = cond.1;
-      row = some_or IsRow (row_of b.target.core) (first_told row_part later) (row_low b.target.core good.target.core) (rows_low later others);
+      row = some_or IsRow (target_row b.target.core) (first_told row_part later) (row_low b.target.core good.target.core) (rows_low later others);
       add = first.link;
       mul = second.link;
       add_to = fit.add;

@@ -9,7 +9,7 @@ use Rattle.qpu_word.specs.declared.name.Place.TheVariants as place
 use Rattle.qpu_word.specs.Words.{is_write_address, is_link_address, between}
 use Rattle.qpu_word.specs.Canonical.{file_matters}
 use Rattle.qpu_line.specs.declared.name.Name.{Name}
-use Rattle.qpu_line.specs.Targets.{target_of, address_of, exchange_of}
+use Rattle.qpu_line.specs.Targets.{target_at_address, address_of, exchange_of}
 use Rattle.qpu_line.specs.Worded.{IsTarget}
 use Rattle.qpu_asm.specs.declared.piece.Core.{Core}
 use Rattle.qpu_asm.specs.declared.piece.Core.TheVariants as core
@@ -17,10 +17,10 @@ use Rattle.qpu_asm.specs.declared.piece.Suffix.{Suffix}
 use Rattle.qpu_asm.specs.declared.mark.What.{What}
 use Rattle.qpu_asm.specs.declared.mark.What.TheVariants as what
 use Rattle.qpu_asm.specs.declared.mark.Mark.{Mark}
-use Rattle.qpu_asm.specs.Roles.{target_of as named_target}
+use Rattle.qpu_asm.specs.Roles.{target_meant as named_target}
 use Rattle.qpu_asm.specs.Marks.{target_place, place_mark, somewhere, if_link}
 use Rattle.qpu_asm.specs.Judging.{cross}
-use Rattle.qpu_asm.specs.Meanings.{condition_of, condition_in, branch_condition_of, branch_condition_in, nowhere, place_of}
+use Rattle.qpu_asm.specs.Meanings.{condition_of, condition_in, branch_condition_of, branch_condition_in, nowhere_place, place_of}
 use Rattle.qpu_asm.proofs.GoodNames.{is_placed, target_good, condition_good, branch_condition_good}
 use Rattle.qpu_asm.proofs.MarkLemmas.{Has}
 use Rattle.qpu_asm.proofs.ProperParts.{GoodCore, GoodName, GoodSuffix}
@@ -73,7 +73,7 @@ place_good core.Nowhere good = refl
 place_good (core.Label at) good = tt
 
 pub placed_fits : (c : Core) → GoodCore c → is_placed (place_of c) ≡ true
-placed_fits c good = or_else IsPlaced (target_place c) nowhere (place_good c good) refl
+placed_fits c good = or_else IsPlaced (target_place c) nowhere_place (place_good c good) refl
 
 pub written_address : (p : Place) → is_placed p ≡ true → is_write_address (address_of p) ≡ true
 written_address (place.Both a) placed = (both_true (is_write_address a) (not (file_matters a)) placed).0
@@ -83,7 +83,7 @@ written_address (place.FileB a) placed = (both_true (is_write_address a) (file_m
 -- the marks of places
 
 pub place_told : (o : Option Place) (token : Token) (U : List Mark) → ((w : What) → Has w (place_mark o token []) → Has w U) → (Has what.Wrong U → ⊥)
-    → Has (what.Writes (unwrap_or o nowhere)) U
+    → Has (what.Writes (unwrap_or o nowhere_place)) U
 place_told None token U inside right = absurd (right (inside what.Wrong (inl refl)))
 place_told (Some p) token U inside right = inside (what.Writes p) (inl refl)
 
@@ -107,7 +107,7 @@ link_by p true token U is inside right = record { link = is; told = inside (what
 link_by p false token U is inside right = absurd (right (inside what.Wrong (inl refl)))
 
 pub link_told : (o : Option Place) (token : Token) (U : List Mark) → ((w : What) → Has w (place_mark (if_link o) token []) → Has w U) → (Has what.Wrong U → ⊥)
-    → IsLink (unwrap_or o nowhere) U
+    → IsLink (unwrap_or o nowhere_place) U
 link_told None token U inside right = absurd (right (inside what.Wrong (inl refl)))
 link_told (Some p) token U inside right = link_by p (is_link_address (address_of p)) token U refl inside right
 
@@ -126,7 +126,7 @@ pub record TargetsFit (p q : Place) : Type 0 where
   pub mul : IsTarget (not (exchange_of p q == 1)) q
 
 either_target : (in_b : Bool) (a : ℕ) → is_placed (place.Both a) ≡ true → IsTarget in_b (place.Both a)
-unfolding target_of
+unfolding target_at_address
 either_target in_b a placed = let e : file_matters a ≡ false = not_true (file_matters a) (both_true (is_write_address a) (not (file_matters a)) placed).1 in rw e refl
   where
     not_true : (b : Bool) → not b ≡ true → b ≡ false
@@ -134,11 +134,11 @@ either_target in_b a placed = let e : file_matters a ≡ false = not_true (file_
     not_true false e = refl
 
 a_target : (in_b : Bool) (a : ℕ) → is_placed (place.FileA a) ≡ true → in_b ≡ false → IsTarget in_b (place.FileA a)
-unfolding target_of
+unfolding target_at_address
 a_target in_b a placed is = let e : file_matters a ≡ true = (both_true (is_write_address a) (file_matters a) placed).1 in rw (is, e) refl
 
 b_target : (in_b : Bool) (a : ℕ) → is_placed (place.FileB a) ≡ true → in_b ≡ true → IsTarget in_b (place.FileB a)
-unfolding target_of
+unfolding target_at_address
 b_target in_b a placed is = let e : file_matters a ≡ true = (both_true (is_write_address a) (file_matters a) placed).1 in rw (is, e) refl
 
 pub targets_fit : (p q : Place) → is_placed p ≡ true → is_placed q ≡ true → cross p q ≡ false → TargetsFit p q
@@ -152,7 +152,7 @@ targets_fit (place.FileB a) (place.Both b) x y z = record { add = b_target _ a x
 targets_fit (place.FileB a) (place.FileA b) x y z = record { add = b_target _ a x refl; mul = a_target _ b y refl }
 targets_fit (place.FileB a) (place.FileB b) x y z = absurd (grind (arith, z))
 
-pub cross_nowhere : (p : Place) → cross p nowhere ≡ false
+pub cross_nowhere : (p : Place) → cross p nowhere_place ≡ false
 cross_nowhere (place.Both a) = refl
 cross_nowhere (place.FileA a) = refl
 cross_nowhere (place.FileB a) = refl

@@ -21,7 +21,7 @@ use Rattle.qpu_asm.specs.declared.mark.What.TheVariants as what
 use Rattle.qpu_asm.specs.declared.mark.Mark.{Mark}
 use Rattle.qpu_asm.specs.Roles.{add_code, mul_code, op_in_add, op_in_mul, takes_one, pack_of}
 use Rattle.qpu_asm.specs.Marks.{mark_if, suffix_marks, target_place, place_mark, is_pack, is_row, pack_marks, target_marks, operand_marks, unit_marks}
-use Rattle.qpu_asm.specs.Meanings.{condition_in, pack_name, pack_in, nowhere, place_of, is_nowhere, operand_of, condition_at, unit_of}
+use Rattle.qpu_asm.specs.Meanings.{condition_in, pack_name, pack_in, nowhere_place, place_of, is_nowhere, operand_of, condition_at, unit_of}
 use Rattle.qpu_asm.proofs.GoodNames.{is_placed, is_pack as is_pack_mode, pack_good}
 use Rattle.qpu_asm.proofs.MarkLemmas.{Has, has_right}
 use Rattle.qpu_asm.proofs.ProperParts.{GoodName, GoodSuffix, GoodUnit}
@@ -43,19 +43,19 @@ pack_mode (Some n) good is = some (pack_of n) (pack_good n good) is
     some None fits there = absurd (grind (arith, there))
     some (Some mode) fits there = fits
 
-pack_at_row : (to : Option Place) (pack : ℕ) → is_row to ≡ true → is_pack_mode pack ≡ true → is_pack_at (unwrap_or to nowhere) pack ≡ true
+pack_at_row : (to : Option Place) (pack : ℕ) → is_row to ≡ true → is_pack_mode pack ≡ true → is_pack_at (unwrap_or to nowhere_place) pack ≡ true
 pack_at_row None pack row mode = absurd (grind (arith, row))
 pack_at_row (Some p) pack row mode = rw (row, mode) (or_true (pack == 0))
 
 pack_by : (to : Option Place) (s : Suffix) (b : Bool) (token : Token) (ms U : List Mark) → (is_row to && is_pack s.name) ≡ b → GoodName s.name
-    → ((w : What) → Has w (mark_if (not b) what.Wrong token ms) → Has w U) → (Has what.Wrong U → ⊥) → is_pack_at (unwrap_or to nowhere) (pack_in (Some s)) ≡ true
+    → ((w : What) → Has w (mark_if (not b) what.Wrong token ms) → Has w U) → (Has what.Wrong U → ⊥) → is_pack_at (unwrap_or to nowhere_place) (pack_in (Some s)) ≡ true
 pack_by to s true token ms U is good inside right =
     let both = both_true (is_row to) (is_pack s.name) is in
     pack_at_row to (unwrap_or (pack_name s.name) 0) both.0 (pack_mode s.name good both.1)
 pack_by to s false token ms U is good inside right = absurd (right (inside what.Wrong (has_right what.Wrong ms _ (inl refl))))
 
 pack_said : (to : Option Place) (s : Option Suffix) (ms U : List Mark) → GoodSuffix s → ((w : What) → Has w (pack_marks to s ms) → Has w U) → (Has what.Wrong U → ⊥)
-    → is_pack_at (unwrap_or to nowhere) (pack_in s) ≡ true
+    → is_pack_at (unwrap_or to nowhere_place) (pack_in s) ≡ true
 pack_said to None ms U good inside right = refl
 pack_said to (Some s) ms U good inside right = pack_by to s (is_row to && is_pack s.name) s.dot ms U refl good inside right
 

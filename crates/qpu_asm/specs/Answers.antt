@@ -14,15 +14,15 @@ abbrev pub answered : Stop → AsmFault
 answered (Fault fault) = fault
 answered Memory = no_memory
 
-abbrev pub StopsAt : {A : Type 0} → Result A AsmFault → Stop → Type 0
-StopsAt due (Fault fault) = due ≡ Err fault
-StopsAt due Memory = Unit {0}
+abbrev pub StopsBy : {A : Type 0} → Result A AsmFault → Stop → Type 0
+StopsBy due (Fault fault) = due ≡ Err fault
+StopsBy due Memory = Unit {0}
 
 abbrev pub Answers : {A : Type 0} → Result A AsmFault → Result A Stop → Type 0
 Answers due (Ok a) = due ≡ Ok a
-Answers due (Err stop) = StopsAt due stop
+Answers due (Err stop) = StopsBy due stop
 
 -- the same of a call that changes what stands before it
 abbrev pub Leads : {A : Type 0} → Result A AsmFault → A → Result (Unit {0}) Stop → Type 0
 Leads due after (Ok u) = due ≡ Ok after
-Leads due after (Err stop) = StopsAt due stop
+Leads due after (Err stop) = StopsBy due stop

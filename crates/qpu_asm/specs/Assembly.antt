@@ -13,7 +13,7 @@ use Rattle.qpu_expr.specs.Tables.{put_in}
 use Rattle.qpu_expr.specs.Expansion.{Left, expansion}
 use Rattle.qpu_asm.specs.declared.line.Line.{Line}
 use Rattle.qpu_asm.specs.Answers.{no_memory}
-use Rattle.qpu_asm.specs.Placed.{Labels, placed}
+use Rattle.qpu_asm.specs.Placed.{Labels, placed_token}
 use Rattle.qpu_asm.specs.LinesRead.{read_line, word_in}
 
 -- the first fault ends it
@@ -32,12 +32,12 @@ labels_of text labels = fold (label_put text) [] labels
 abbrev pub no_token : Token
 no_token = record { kind = kind.LineEnd; from = 0; to = 0; line = 0; column = 0 }
 
-abbrev pub end_of : List Token → Token
-end_of line = unwrap_or (slice_get line (length line - 1)) no_token
+abbrev pub closing_token : List Token → Token
+closing_token line = unwrap_or (slice_get line (length line - 1)) no_token
 
 -- what a line says at a place of the program
 unfoldable pub line_at : List ℕ → Labels → ℕ → List Token → Result Line AsmFault
-line_at text labels at line = read_line at (end_of line) (map (placed text labels) (take (length line - 1) line))
+line_at text labels at line = read_line at (closing_token line) (map (placed_token text labels) (take (length line - 1) line))
 
 -- the words of lines in order, each at the place behind those before it
 abbrev pub word_behind : List ℕ → Labels → List Token → List ℕ → Result (List ℕ) AsmFault

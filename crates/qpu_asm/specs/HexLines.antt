@@ -2,6 +2,7 @@
 use Rattle.std.specs.Prelude.{◌≡◌, ◌⊎◌, ℕ, ◌+◌, ◌==◌, ◌&&◌, ◌||◌, Bool, nat_lt, nat_le, List, [], ◌∷◌, ◌++◌, map, take, drop, Result, Ok, Err, if◌then◌else◌}
 use Rattle.std.specs.List.{list_all, prefix_len, before_first, slice_split}
 use Rattle.qpu_word.specs.declared.word.Word.{Word}
+use Rattle.qpu_word.specs.Words.{numbers_of}
 use Rattle.qpu_token.specs.declared.fault.AsmKind.TheVariants.{Shape}
 use Rattle.qpu_token.specs.declared.fault.AsmFault.{AsmFault}
 use Rattle.qpu_token.specs.Words.{is_blank, is_hex_digit, value_in}
@@ -70,10 +71,6 @@ words_behind number words (line ∷ lines) =
 -- the words of a text, or the place of the first line that is none
 unfoldable pub hex_words : List ℕ → Result (List ℕ) AsmFault
 hex_words text = words_behind 1 [] (hex_lines text)
-
--- words by their numbers
-abbrev pub numbers_of : List Word → List ℕ
-numbers_of words = map (λ word. word.0) words
 
 -- the words are due, or the fault is; want of memory, which has no place, is free
 abbrev pub AreHexWords : List ℕ → List Word → Type 0

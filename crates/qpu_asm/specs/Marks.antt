@@ -29,7 +29,7 @@ use Rattle.qpu_asm.specs.declared.part.Part.TheVariants as part
 use Rattle.qpu_asm.specs.declared.mark.What.{What}
 use Rattle.qpu_asm.specs.declared.mark.What.TheVariants as what
 use Rattle.qpu_asm.specs.declared.mark.Mark.{Mark}
-use Rattle.qpu_asm.specs.Roles.{target_of, source_of, pack_of, unpack_of}
+use Rattle.qpu_asm.specs.Roles.{target_meant, source_of, pack_of, unpack_of}
 
 -- a mark behind others
 abbrev pub mark : What → Token → List Mark → List Mark
@@ -98,7 +98,7 @@ no_suffix (Some s) ms = mark what.Wrong s.dot ms
 
 -- the place of a target; none where its name isn't one
 abbrev pub target_place : Core → Option Place
-target_place (core.Name n) = target_of n
+target_place (core.Name n) = target_meant n
 target_place core.Nowhere = Some (place.Both NOWHERE)
 target_place _ = None
 
@@ -124,7 +124,7 @@ target_marks p ms = pack_marks (target_place p.core) p.suffix (place_mark (targe
 
 -- a second target is somewhere
 abbrev pub somewhere : Core → Option Place
-somewhere (core.Name n) = target_of n
+somewhere (core.Name n) = target_meant n
 somewhere _ = None
 
 -- what a branch links to: rows, r0 to r3 and `-`

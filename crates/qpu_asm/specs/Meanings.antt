@@ -75,11 +75,11 @@ unpack_in (Some s) = unwrap_or (unpack_name s.name) 0
 
 -- pieces
 
-abbrev pub nowhere : Place
-nowhere = place.Both NOWHERE
+abbrev pub nowhere_place : Place
+nowhere_place = place.Both NOWHERE
 
 abbrev pub place_of : Core → Place
-place_of c = unwrap_or (target_place c) nowhere
+place_of c = unwrap_or (target_place c) nowhere_place
 
 abbrev pub is_nowhere : Place → Bool
 is_nowhere p = address_of p == NOWHERE
@@ -224,16 +224,16 @@ distance relative at (core.Label (Some word)) =
     if relative then (2 ^ 36 + 8 * word - behind_slots at) % 2 ^ 32 else 8 * word % 2 ^ 32
 distance relative at _ = 0
 
-abbrev pub row_of : Core → Option ℕ
-row_of (core.Name (name.Register (register.RowA n))) = Some n
-row_of _ = None
+abbrev pub target_row : Core → Option ℕ
+target_row (core.Name (name.Register (register.RowA n))) = Some n
+target_row _ = None
 
 abbrev pub row_part : Part → Option ℕ
-row_part (part.Row p) = row_of p.core
+row_part (part.Row p) = target_row p.core
 row_part _ = None
 
 abbrev pub link_in : List Part → Place
-link_in [] = nowhere
+link_in [] = nowhere_place
 link_in (part.Link p ∷ later) = place_of p.core
 link_in (p ∷ later) = link_in later
 
@@ -241,7 +241,7 @@ unfoldable pub branch_of_part : ℕ → BranchPart → List Part → Branch
 branch_of_part at b later = record {
   cond = branch_condition_in b.suffix;
   relative = b.relative;
-  register = option_or (row_of b.target.core) (first_told row_part later);
+  register = option_or (target_row b.target.core) (first_told row_part later);
   add = place_of b.to.core;
   mul = link_in later;
   immediate = distance b.relative at b.target.core;

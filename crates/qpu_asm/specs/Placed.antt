@@ -47,5 +47,5 @@ abbrev pub Labels : Type 0
 Labels = List (List ℕ × ℕ)
 
 -- a token with what it is, and the word behind the label with its text
-unfoldable pub placed : List ℕ → Labels → Token → Placed
-placed text labels token = record { symbol = symbol_of text token; token = token; label = found (text_of text token) labels }
+unfoldable pub placed_token : List ℕ → Labels → Token → Placed
+placed_token text labels token = record { symbol = symbol_of text token; token = token; label = found (text_of text token) labels }

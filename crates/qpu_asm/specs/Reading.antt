@@ -24,6 +24,6 @@ told (Ok x) = Ok (x.0, x.1.now)
 told (Err token) = Err token
 
 -- what is left behind a sign
-abbrev pub left : Result (Bor (List Placed)) Token → Result (List Placed) Token
-left (Ok xs) = Ok xs.now
-left (Err token) = Err token
+abbrev pub left_behind : Result (Bor (List Placed)) Token → Result (List Placed) Token
+left_behind (Ok xs) = Ok xs.now
+left_behind (Err token) = Err token

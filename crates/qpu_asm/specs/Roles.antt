@@ -75,9 +75,9 @@ target_register register.Vpm = Some (place.Both WRITE_VPM)
 target_register (register.Source p) = None
 target_register (register.Target p) = Some p
 
-abbrev pub target_of : Name → Option Place
-target_of (name.Register r) = target_register r
-target_of _ = None
+abbrev pub target_meant : Name → Option Place
+target_meant (name.Register r) = target_register r
+target_meant _ = None
 
 -- as an operand, without unpacking
 abbrev pub source_register : Register → Option Operand

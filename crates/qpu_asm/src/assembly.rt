@@ -3,9 +3,9 @@ ghost use Rattle.std.specs.Prelude.{◌≡◌, ◌<◌, ◌≤◌, [], length, m
 ghost use Rattle.qpu_token.specs.Tokens.{AreTokens};
 ghost use Rattle.qpu_expr.specs.declared.limits.TheConstants.{MOST_WORDS};
 ghost use Rattle.qpu_expr.specs.Expansion.{Left};
-ghost use Rattle.qpu_asm.specs.Placed.{placed};
+ghost use Rattle.qpu_asm.specs.Placed.{placed_token};
 ghost use Rattle.qpu_asm.specs.Answers.{Answers, Leads};
-ghost use Rattle.qpu_asm.specs.Assembly.{label_put, labels_of, end_of, line_at, word_behind, words_of_lines, encoding, AreWords, IsItsFault};
+ghost use Rattle.qpu_asm.specs.Assembly.{label_put, labels_of, closing_token, line_at, word_behind, words_of_lines, encoding, AreWords, IsItsFault};
 
 use crate::line::{Line, read_line};
 use crate::placed::{Placed, symbol_of, text_of};
@@ -47,9 +47,9 @@ fn labels_of(alloc: Global, text: &[u8], labels: &[LabelAt]) -> Result<Table<u32
 }
 
 /// A token with what it is.
-#[tactic(auto, unfolding(crate::specs::Placed::placed))]
+#[tactic(auto, unfolding(crate::specs::Placed::placed_token))]
 fn placed(text: &[u8], labels: &Table<u32>, token: Token) -> Placed
-    ensures { result ≡ placed text.now labels.now token }
+    ensures { result ≡ placed_token text.now labels.now token }
 {
     Placed {
         symbol: symbol_of(text, token),
@@ -65,7 +65,7 @@ fn all_placed(
     labels: &Table<u32>,
     line: &[Token],
 ) -> Result<Vec<Placed>, AllocError>
-    ensures { IfOk result (λ all. all.items ≡ map (placed text.now labels.now) line.now) }
+    ensures { IfOk result (λ all. all.items ≡ map (placed_token text.now labels.now) line.now) }
 {
     let mut all = Vec::new(alloc);
     for token in line {
@@ -76,7 +76,7 @@ fn all_placed(
 
 /// The end of a line.
 fn end_of(line: &[Token]) -> Token
-    ensures { result ≡ end_of line.now }
+    ensures { result ≡ closing_token line.now }
 {
     line.get(line.len().saturating_sub(1))
         .copied()

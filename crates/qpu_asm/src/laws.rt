@@ -6,7 +6,7 @@ ghost use Rattle.qpu_line.specs.declared.instruction.Instruction.{Instruction as
 ghost use Rattle.qpu_line.specs.Named.{HasWord};
 ghost use Rattle.qpu_asm.specs.declared.placed.Placed.{Placed as PlacedOf};
 ghost use Rattle.qpu_asm.specs.declared.line.Line.TheVariants.{Raw, Says};
-ghost use Rattle.qpu_asm.specs.Placed.{placed, Labels};
+ghost use Rattle.qpu_asm.specs.Placed.{placed_token, Labels};
 ghost use Rattle.qpu_asm.specs.LinesRead.{read_line};
 ghost use Rattle.qpu_asm.specs.Assembly.{IsAssembly};
 ghost use Rattle.qpu_asm.specs.Laws.{IsProper, symbols_of, word_symbols};
@@ -14,7 +14,7 @@ ghost use Rattle.qpu_asm.specs.Laws.{IsProper, symbols_of, word_symbols};
 /// The names among a text's tokens are names of the language.
 #[tactic(auto, using(crate::proofs::ProperTokens::placed_proper))]
 pub fn placed_tokens_are_proper()
-    ensures { (text : List ℕ) (labels : Labels) (token : TokenOf) → IsProper (placed text labels token) }
+    ensures { (text : List ℕ) (labels : Labels) (token : TokenOf) → IsProper (placed_token text labels token) }
 {}
 
 /// What a line says has a canonical word.
@@ -25,7 +25,7 @@ pub fn lines_have_words()
 /// So what a line of a text says has one, whatever its tokens are.
 #[tactic(auto, using(crate::proofs::LineLaw::text_lines_law))]
 pub fn lines_of_texts_have_words()
-    ensures { (text : List ℕ) (labels : Labels) (at : ℕ) (end : TokenOf) (tokens : List TokenOf) (i : InstructionOf) → read_line at end (map (placed text labels) tokens) ≡ Ok (Says i) → HasWord i }
+    ensures { (text : List ℕ) (labels : Labels) (at : ℕ) (end : TokenOf) (tokens : List TokenOf) (i : InstructionOf) → read_line at end (map (placed_token text labels) tokens) ≡ Ok (Says i) → HasWord i }
 {}
 
 /// A line's word stands as it is written exactly where the line is `.word` and a number.

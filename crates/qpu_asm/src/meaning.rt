@@ -2,7 +2,7 @@
 ghost use Rattle.std.specs.Prelude.{◌≡◌, Some};
 ghost use Rattle.qpu_asm.specs.declared.piece.Core.TheVariants.{Label};
 ghost use Rattle.qpu_asm.specs.Roles.{op_in_add as add_code_of, op_in_mul as mul_code_of};
-ghost use Rattle.qpu_asm.specs.Meanings.{condition_in, branch_condition_in, sets_flags, sets_in, pack_in, unpack_in, place_of, is_nowhere, number_of, with_unpack, operand_of_core, operand_of, condition_at, unit_of, mul_in, unit_does, unit_sets, rotation_of, signal_part, signal_in, address_a, address_b, reads_by, other_a_part, other_b_part, first_told, unless, units_of_parts, write_in, also_in, load_of_part, distance, row_of, row_part, link_in, branch_of_part, step, meaning};
+ghost use Rattle.qpu_asm.specs.Meanings.{condition_in, branch_condition_in, sets_flags, sets_in, pack_in, unpack_in, place_of, is_nowhere, number_of, with_unpack, operand_of_core, operand_of, condition_at, unit_of, mul_in, unit_does, unit_sets, rotation_of, signal_part, signal_in, address_a, address_b, reads_by, other_a_part, other_b_part, first_told, unless, units_of_parts, write_in, also_in, load_of_part, distance, target_row, row_part, link_in, branch_of_part, step, meaning};
 
 use crate::mark::code_of;
 use crate::marking::{is_r5, is_set_flags, source_in, target_place, unpack_name};
@@ -14,12 +14,7 @@ use qpu_line::{
     Write, address_of,
 };
 use qpu_word::Place;
-use qpu_word::code::{NOWHERE, ROTATE_BY_R5, WORD_BYTES};
-
-/// The condition always of a write, and of a branch.
-const ALWAYS: u32 = 1;
-
-const BRANCH_ALWAYS: u32 = 15;
+use qpu_word::code::{BRANCH_ALWAYS, COND_ALWAYS, INSTRUCTION_BYTES, NOWHERE, ROTATE_BY_R5};
 
 /// Distances of rotations are below.
 const DISTANCES: u32 = 16;
@@ -38,7 +33,7 @@ fn condition_in(suffix: Option<Suffix>) -> u32
                 ..
             },
         ) => code,
-        _ => ALWAYS,
+        _ => COND_ALWAYS,
     }
 }
 
@@ -155,7 +150,7 @@ fn condition_at(to: Place, suffix: Option<Suffix>) -> u32
     ensures { result ≡ condition_at to suffix }
 {
     if is_nowhere(to) {
-        ALWAYS
+        COND_ALWAYS
     } else {
         condition_in(suffix)
     }
@@ -403,8 +398,8 @@ fn load_of_part(load: LoadPart, later: &[Part]) -> Load
 fn to_label(relative: bool, at: u32, word: u32) -> u32
     ensures { result ≡ distance relative at (Label (Some word)) }
 {
-    let bytes = u64::from(WORD_BYTES) * u64::from(word);
-    let behind = u64::from(WORD_BYTES) * (u64::from(at) + UP_TO_TARGET);
+    let bytes = u64::from(INSTRUCTION_BYTES) * u64::from(word);
+    let behind = u64::from(INSTRUCTION_BYTES) * (u64::from(at) + UP_TO_TARGET);
     let target = if relative {
         (1 << 36) + bytes - behind
     } else {
@@ -426,7 +421,7 @@ fn distance(relative: bool, at: u32, core: Core) -> u32
 
 /// The row of file A that a name stands for.
 fn row_of(core: Core) -> Option<u32>
-    ensures { result ≡ row_of core }
+    ensures { result ≡ target_row core }
 {
     match core {
         Core::Name(Name::Register(Register::RowA(row))) => Some(row),

@@ -1,6 +1,6 @@
 //! Pieces of a part: targets, operands, numbers and labels, with their suffixes.
 ghost use Rattle.std.specs.Prelude.{◌≡◌, drop};
-ghost use Rattle.qpu_asm.specs.Reading.{told, left};
+ghost use Rattle.qpu_asm.specs.Reading.{told, left_behind};
 ghost use Rattle.qpu_asm.specs.Pieces.{named, suffix_at, stops, alone, name_alone, bare, target_core, value_core, label_core, jump_core, has_dot, operand_core, target_at, operand_at, comma_at};
 
 use crate::expression::expression_length;
@@ -241,7 +241,7 @@ fn with_suffix(piece: Piece, suffix: Option<Suffix>) -> Piece
 
 /// What stands behind a sign `,`. The error is the token that isn't due, or the end.
 pub(crate) fn comma_at(end: Token, xs: &[Placed]) -> Result<&[Placed], Token>
-    ensures { left result ≡ comma_at end xs.now }
+    ensures { left_behind result ≡ comma_at end xs.now }
 {
     match xs {
         [] => Err(end),

@@ -1,6 +1,6 @@
 //! What names stand for, by where they stand.
 ghost use Rattle.std.specs.Prelude.{◌≡◌};
-ghost use Rattle.qpu_asm.specs.Roles.{add_code, mul_code, op_in_add, op_in_mul, takes_one, target_of, source_of, pack_of, unpack_of, is_mnemonic};
+ghost use Rattle.qpu_asm.specs.Roles.{add_code, mul_code, op_in_add, op_in_mul, takes_one, target_meant, source_of, pack_of, unpack_of, is_mnemonic};
 
 use qpu_line::{Name, Operand, Register};
 use qpu_word::code::{READ_VPM, WRITE_R0, WRITE_VPM};
@@ -82,7 +82,7 @@ const WRITTEN_ACCUMULATORS: u32 = 4;
 
 /// The place that a name stands for as a target.
 pub(crate) fn target_of(name: Name) -> Option<Place>
-    ensures { result ≡ target_of name }
+    ensures { result ≡ target_meant name }
 {
     match name {
         Name::Register(Register::Accumulator(n)) if n < WRITTEN_ACCUMULATORS => Some(Place::Both(

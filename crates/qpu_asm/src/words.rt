@@ -1,7 +1,8 @@
 //! The words of a text that has one in a line.
 ghost use Rattle.std.specs.Prelude.{◌≡◌, ◌<◌, ◌≤◌, ◌+◌, ◌∷◌, ◌++◌, [], length, position, IfOk, IfErr, IfSome, MatchOption, OnOk};
-ghost use Rattle.qpu_asm.specs.Answers.{Leads, StopsAt};
-ghost use Rattle.qpu_asm.specs.HexLines.{is_line_feed, hex_lines, hex_line, with_hex, hex_words, numbers_of, AreHexWords, IsHexFault};
+ghost use Rattle.qpu_asm.specs.Answers.{Leads, StopsBy};
+ghost use Rattle.qpu_word.specs.Words.{numbers_of};
+ghost use Rattle.qpu_asm.specs.HexLines.{is_line_feed, hex_lines, hex_line, with_hex, hex_words, AreHexWords, IsHexFault};
 
 use crate::hex::{HexLine, hex_line};
 use crate::stop::Stop;
@@ -54,7 +55,7 @@ fn put_line(words: &mut Vec<Word>, number: u32, line: &[u8]) -> Result<(), Stop>
 fn read_words(alloc: Global, text: &[u8]) -> Result<Vec<Word>, Stop>
     requires { length text.now ≤ MOST_BYTES }
     ensures ok { IfOk result (λ words. AreHexWords text.now words.items) }
-    ensures err { IfErr result (λ stop. StopsAt (hex_words text.now) stop) }
+    ensures err { IfErr result (λ stop. StopsBy (hex_words text.now) stop) }
 {
     let mut words = Vec::new(alloc);
     let mut number = 1;

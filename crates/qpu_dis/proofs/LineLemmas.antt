@@ -15,7 +15,7 @@ use Rattle.qpu_line.specs.declared.load.Write.{Write}
 use Rattle.qpu_line.specs.declared.instruction.Instruction.{Instruction}
 use Rattle.qpu_line.specs.declared.name.Name.TheVariants as name
 use Rattle.qpu_line.specs.declared.name.Register.TheVariants as register
-use Rattle.qpu_line.specs.Targets.{target_of, is_row_a}
+use Rattle.qpu_line.specs.Targets.{target_at_address, is_row_a}
 use Rattle.qpu_line.specs.Slots.{unit_fields}
 use Rattle.qpu_line.specs.Units.{operand_of, pack_at, part_to, part_of, any_uses, signal_of, other_read, units_of}
 use Rattle.qpu_line.specs.Loads.{kind_of, write_of, load_of, write_target}
@@ -75,13 +75,13 @@ unfolding part_of
 add_first f in_b sets h unit = by_idle ((f.op_add == 0) || (f.cond_add == 0)) refl
   where
     part : Part
-    part = part_to (unit_fields f) (target_of in_b f.waddr_add) f.op_add f.cond_add f.add_a f.add_b
+    part = part_to (unit_fields f) (target_at_address in_b f.waddr_add) f.op_add f.cond_add f.add_a f.add_b
 
     made : add_active f ≡ true → IsPartOf (is_unary f.op_add) part
     made active = record {
       cond = h.cond_add;
       to = target_first in_b f.waddr_add (add_named f h active);
-      pack = pack_then f (target_of in_b f.waddr_add) h unit;
+      pack = pack_then f (target_at_address in_b f.waddr_add) h unit;
       a = readable f f.add_a h (is_read f f.add_a h unit h.add_a (add_first_used f MUX_FILE_A active) (add_first_used f MUX_FILE_B active));
       b = λ two. readable f f.add_b h (is_read f f.add_b h unit h.add_b (add_second_used f MUX_FILE_A active two) (add_second_used f MUX_FILE_B active two));
     }
@@ -97,13 +97,13 @@ unfolding part_of
 mul_later f in_b sets h unit = by_idle ((f.op_mul == 0) || (f.cond_mul == 0)) refl
   where
     part : Part
-    part = part_to (unit_fields f) (target_of in_b f.waddr_mul) f.op_mul f.cond_mul f.mul_a f.mul_b
+    part = part_to (unit_fields f) (target_at_address in_b f.waddr_mul) f.op_mul f.cond_mul f.mul_a f.mul_b
 
     made : mul_active f ≡ true → IsPartOf false part
     made active = record {
       cond = h.cond_mul;
       to = target_first in_b f.waddr_mul (mul_named f h active);
-      pack = pack_then f (target_of in_b f.waddr_mul) h unit;
+      pack = pack_then f (target_at_address in_b f.waddr_mul) h unit;
       a = readable f f.mul_a h (is_read f f.mul_a h unit h.mul_a (mul_first_used f MUX_FILE_A active) (mul_first_used f MUX_FILE_B active));
       b = λ two. readable f f.mul_b h (is_read f f.mul_b h unit h.mul_b (mul_second_used f MUX_FILE_A active) (mul_second_used f MUX_FILE_B active));
     }
@@ -175,8 +175,8 @@ written_by cond in_b address low is =
     other_write ((cond == 0) || (address == NOWHERE))
     (λ e. (low, target_first in_b address (is (neither (cond == 0) (address == NOWHERE) e).0)))
   where
-    other_write : (b : Bool) → (b ≡ false → IsWritten (record { cond = cond; to = target_of in_b address }))
-        → IfSome (if b then None else Some (record { cond = cond; to = target_of in_b address })) IsWritten
+    other_write : (b : Bool) → (b ≡ false → IsWritten (record { cond = cond; to = target_at_address in_b address }))
+        → IfSome (if b then None else Some (record { cond = cond; to = target_at_address in_b address })) IsWritten
     other_write true h = tt
     other_write false h = h refl
 
@@ -250,13 +250,13 @@ unfolding branch_bits
 branch_first f h branch =
     let links = links_named f h branch in
     first_then _ (row_bits (register_of (f.reg == 1) f.raddr_br))
-    (first_then _ (link_bits (target_of (not (f.ws == 1)) f.waddr_mul))
+    (first_then _ (link_bits (target_at_address (not (f.ws == 1)) f.waddr_mul))
     (first_then _ (and_then (distance_bit (branch_of f) ∷ []))
-    (first_then _ (Space ∷ target_bits (target_of (f.ws == 1) f.waddr_add))
+    (first_then _ (Space ∷ target_bits (target_at_address (f.ws == 1) f.waddr_add))
     (first_then (Word (branch_name (f.rel == 1)) ∷ []) (branch_condition_bits f.cond_br) (branch_named (f.rel == 1)) (branch_condition_later f.cond_br))
-    (spaced (target_bits (target_of (f.ws == 1) f.waddr_add)) (target_first (f.ws == 1) f.waddr_add links.0)))
+    (spaced (target_bits (target_at_address (f.ws == 1) f.waddr_add)) (target_first (f.ws == 1) f.waddr_add links.0)))
     (after_comma (distance_bit (branch_of f) ∷ []) (distance_first (f.rel == 1) f.immediate h.immediate)))
-    (link_later (target_of (not (f.ws == 1)) f.waddr_mul) (target_first (not (f.ws == 1)) f.waddr_mul links.1)))
+    (link_later (target_at_address (not (f.ws == 1)) f.waddr_mul) (target_first (not (f.ws == 1)) f.waddr_mul links.1)))
     (row_later (f.reg == 1) f.raddr_br h.raddr_br)
 
 -- by the word's form

@@ -15,7 +15,7 @@ use Rattle.qpu_line.specs.declared.name.Name.TheVariants as name
 use Rattle.qpu_line.specs.declared.name.Register.TheVariants as register
 use Rattle.qpu_line.specs.Names.{IsNameOfLanguage}
 use Rattle.qpu_word.specs.Canonical.{file_matters}
-use Rattle.qpu_line.specs.Targets.{target_of}
+use Rattle.qpu_line.specs.Targets.{target_at_address}
 use Rattle.qpu_line.specs.Lines.{Figure, Decimal, Word, Number, Space, source_a, source_b, target_bits, suffix, condition_bits, branch_condition_bits, flags_bits, pack_bits, unpack_bits, small_figure, signed_figure, operand_bits, and_then, behind, part_bits, signal_bits, other_bits}
 use Rattle.qpu_dis.specs.Text.{second_bits, rotation_bit}
 use Rattle.qpu_dis.proofs.NameFacts.{is_packed}
@@ -104,8 +104,8 @@ file_b_first n matters =
     either_first (nat_lt n ROWS) _ _ (row_b n)
     (λ e. a_name (name.Register (register.Target (place.FileB n))) (a_target_of_b n (grind (arith, nat_tests, matters, e))) refl)
 
-pub target_first : (in_b : Bool) (n : ℕ) → is_write_address n ≡ true → IsFirst (target_bits (target_of in_b n))
-unfolding target_of
+pub target_first : (in_b : Bool) (n : ℕ) → is_write_address n ≡ true → IsFirst (target_bits (target_at_address in_b n))
+unfolding target_at_address
 target_first in_b n named = by_file (file_matters n) in_b refl
   where
     by_file : (m in_b : Bool) → file_matters n ≡ m → IsFirst (target_bits (if m then (if in_b then place.FileB n else place.FileA n) else place.Both n))

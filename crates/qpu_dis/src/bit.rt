@@ -6,10 +6,7 @@ ghost use Rattle.qpu_dis.specs.Text.{bits_text};
 
 use qpu_io::{Piece, Sink, SinkFailed, put_all, write_all_of};
 use qpu_line::{Name, spelling};
-
-/// The condition always, which isn't written, and the first code that isn't one of a branch
-/// condition.
-const ALWAYS: u32 = 1;
+use qpu_word::code::COND_ALWAYS;
 
 const BRANCH_CONDITIONS: u32 = 12;
 
@@ -72,7 +69,7 @@ fn put_suffix<K: Sink>(name: Name, sink: &mut K) -> Result<(), SinkFailed>
 pub(crate) fn put_condition<K: Sink>(cond: u32, sink: &mut K) -> Result<(), SinkFailed>
     ensures { Prints (K.shown sink.old) (K.shown sink.new) (bits_text (condition_bits cond)) result }
 {
-    if cond <= ALWAYS {
+    if cond <= COND_ALWAYS {
         return Ok(());
     }
     put_suffix(Name::Condition(cond), sink)

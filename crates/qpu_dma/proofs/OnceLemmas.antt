@@ -2,7 +2,7 @@
 use Rattle.std.proofs.Common.{◌≡◌, ℕ, ◌+◌, ◌*◌, ◌/◌, ◌%◌, ◌<◌, ◌≤◌, Bool, true, false, IsTrue, refl, arith, if◌then◌else◌, ◌⊎◌, inl, inr}
 use Rattle.std.proofs.lemmas.Bool.Decides.{nat_tests}
 use Rattle.std.proofs.lemmas.Nat.{div_below, mod_below, div-add-mod', same_from_place}
-use Rattle.qpu_dma.specs.Transfers.{Plan, load_plan, store_plan, fits}
+use Rattle.qpu_dma.specs.Transfers.{TransferPlan, load_plan, store_plan, fits}
 use Rattle.qpu_dma.specs.Once.{pair_count, pair_of, cell_of, LoadsEachCellOnce, StoresEachWordOnce}
 use Rattle.qpu_dma.proofs.PlanLemmas.{LiesInside, fitting_inside, fitting_address, fitting_step}
 
@@ -23,7 +23,7 @@ cells_apart true r c j i k l p some rows columns = (same_factor k l p some (omeg
 cells_apart false r c j i k l p some rows columns = (same_factor k l p some (omega arith), omega arith)
 
 -- two pairs of a plan that may start with one cell are one pair
-one_cell : (plan : Plan) (words m n : ℕ) → 1 ≤ plan.vpm_pitch → IsTrue (fits plan words) → m < pair_count plan → n < pair_count plan
+one_cell : (plan : TransferPlan) (words m n : ℕ) → 1 ≤ plan.vpm_pitch → IsTrue (fits plan words) → m < pair_count plan → n < pair_count plan
     → cell_of (pair_of plan m) ≡ cell_of (pair_of plan n) → m ≡ n
 one_cell plan words m n some may low high same =
     let a : LiesInside words (pair_of plan m) = fitting_inside plan words m may low in
@@ -64,7 +64,7 @@ words_of_pairs a s rows w k j l i aligned (inr steps) low high within also same 
     words_apart a s (s / 4) w k j l i aligned (omega arith) within also same
 
 -- two pairs of a plan that may start with one word are one pair
-one_word : (plan : Plan) (words m n : ℕ) → 1 ≤ plan.row_length → plan.pitch ≡ 4 * plan.row_length + plan.aligned → IsTrue (fits plan words)
+one_word : (plan : TransferPlan) (words m n : ℕ) → 1 ≤ plan.row_length → plan.pitch ≡ 4 * plan.row_length + plan.aligned → IsTrue (fits plan words)
     → m < pair_count plan → n < pair_count plan → (pair_of plan m).word ≡ (pair_of plan n).word → m ≡ n
 one_word plan words m n some pitch may low high same =
     let apart = words_of_pairs plan.address plan.aligned plan.rows plan.row_length (m / plan.row_length) (m % plan.row_length) (n / plan.row_length) (n % plan.row_length)

@@ -9,7 +9,7 @@ use Rattle.std.proofs.lemmas.Option.{slice_get-get_or}
 use Rattle.std.proofs.lemmas.Nat.{div_below, mod_below, div-mul-add, mod-mul-add}
 use Rattle.std.proofs.Math.Nat.{mul-le-mul_right, le-mul_of_pos_right}
 use Rattle.qpu_dma.specs.declared.Pair.{Pair}
-use Rattle.qpu_dma.specs.Transfers.{Plan, pair_at, transfer_pairs, is_inside, fits}
+use Rattle.qpu_dma.specs.Transfers.{TransferPlan, pair_at, transfer_pairs, is_inside, fits}
 use Rattle.qpu_dma.specs.Places.{IsMovable}
 use Rattle.qpu_dma.specs.Once.{pair_count, pair_of}
 
@@ -32,17 +32,17 @@ pub inside_test : (words : ℕ) (pair : Pair) → LiesInside words pair → is_i
 inside_test words pair h = grind (arith, nat_tests)
 
 -- how many pairs are listed
-pub length-transfer_pairs : (plan : Plan) → length (transfer_pairs plan) ≡ pair_count plan
+pub length-transfer_pairs : (plan : TransferPlan) → length (transfer_pairs plan) ≡ pair_count plan
 unfolding transfer_pairs
 length-transfer_pairs plan = length-map-range_with_len (pair_of plan) 0 (plan.rows * plan.row_length)
 
 -- the n-th of them
-pub get_or-transfer_pairs : (plan : Plan) (n : ℕ) (d : Pair) → n < pair_count plan → get_or (transfer_pairs plan) n d ≡ pair_of plan n
+pub get_or-transfer_pairs : (plan : TransferPlan) (n : ℕ) (d : Pair) → n < pair_count plan → get_or (transfer_pairs plan) n d ≡ pair_of plan n
 unfolding transfer_pairs
 get_or-transfer_pairs plan n d low = get_or-map-range_with_len (pair_of plan) 0 (plan.rows * plan.row_length) n n d low (omega arith)
 
 -- the n-th of them, where it is there
-pub slice_get-transfer_pairs : (plan : Plan) (n : ℕ) → n < pair_count plan → slice_get (transfer_pairs plan) n ≡ Some (pair_of plan n)
+pub slice_get-transfer_pairs : (plan : TransferPlan) (n : ℕ) → n < pair_count plan → slice_get (transfer_pairs plan) n ≡ Some (pair_of plan n)
 slice_get-transfer_pairs plan n low =
     slice_get-get_or (transfer_pairs plan) n (pair_of plan n) (omega (arith, length-transfer_pairs plan))
     ∙ ap (λ (pair : Pair). Some pair) (get_or-transfer_pairs plan n (pair_of plan n) low)
@@ -60,7 +60,7 @@ word_le : (address j last_j k last_k pitch : ℕ) → j ≤ last_j → k ≤ las
 word_le address j last_j k last_k pitch along across = omega (arith, mul-le-mul_right pitch across)
 
 -- a pair before one that lies inside lies inside
-before_inside : (plan : Plan) (words k last_k j last_j : ℕ) → k ≤ last_k → j ≤ last_j → LiesInside words (pair_at plan last_k last_j) → LiesInside words (pair_at plan k j)
+before_inside : (plan : TransferPlan) (words k last_k j last_j : ℕ) → k ≤ last_k → j ≤ last_j → LiesInside words (pair_at plan last_k last_j) → LiesInside words (pair_at plan k j)
 before_inside plan words k last_k j last_j across along last = record {
   word = omega (arith, last.word, word_le plan.address j last_j k last_k plan.pitch along across);
   row = omega (arith, last.row, sum_le plan.vertical plan.row j last_j k last_k plan.vpm_pitch along across);
@@ -68,7 +68,7 @@ before_inside plan words k last_k j last_j across along last = record {
 }
 
 -- the last pair
-abbrev pub last_pair : Plan → Pair
+abbrev pub last_pair : TransferPlan → Pair
 last_pair plan = pair_at plan (plan.rows - 1) (plan.row_length - 1)
 
 count_more : (rows words : ℕ) → 1 ≤ words → (rows + 1) * words ≡ rows * words + (words - 1) + 1
@@ -80,7 +80,7 @@ count_is rows words some_rows some_words =
     let e : rows ≡ rows - 1 + 1 = omega arith in ap (λ (n : ℕ). n * words) e ∙ count_more (rows - 1) words some_words
 
 -- the last pair is the last that is listed
-last_is : (plan : Plan) → 1 ≤ plan.rows → 1 ≤ plan.row_length → pair_of plan (pair_count plan - 1) ≡ last_pair plan
+last_is : (plan : TransferPlan) → 1 ≤ plan.rows → 1 ≤ plan.row_length → pair_of plan (pair_count plan - 1) ≡ last_pair plan
 last_is plan some_rows some_words =
     let below : plan.row_length - 1 < plan.row_length = omega arith in
     let e : plan.rows * plan.row_length - 1 ≡ (plan.rows - 1) * plan.row_length + (plan.row_length - 1) =
@@ -88,7 +88,7 @@ last_is plan some_rows some_words =
     rw (e, div-mul-add (plan.rows - 1) plan.row_length (plan.row_length - 1) below, mod-mul-add (plan.rows - 1) plan.row_length (plan.row_length - 1) below) refl
 
 -- each pair lies inside where the last does
-all_by_last : (plan : Plan) (words : ℕ) (last : Bool) → 1 ≤ plan.rows → 1 ≤ plan.row_length → is_inside words (last_pair plan) ≡ last → list_all (is_inside words) (transfer_pairs plan) ≡ last
+all_by_last : (plan : TransferPlan) (words : ℕ) (last : Bool) → 1 ≤ plan.rows → 1 ≤ plan.row_length → is_inside words (last_pair plan) ≡ last → list_all (is_inside words) (transfer_pairs plan) ≡ last
 all_by_last plan words true some_rows some_words is =
     list_all-from_AllPass (is_inside words) (transfer_pairs plan) (λ n d low.
     let below : n < plan.rows * plan.row_length = omega (arith, length-transfer_pairs plan) in
@@ -105,7 +105,7 @@ all_by_last plan words false some_rows some_words is =
     (ap (is_inside words) (get_or-transfer_pairs plan (pair_count plan - 1) (last_pair plan) (omega arith) ∙ last_is plan some_rows some_words) ∙ is)
 
 -- the last pair decides whether a transfer may start
-pub fits_by_last : (plan : Plan) (words : ℕ) → 1 ≤ plan.rows → 1 ≤ plan.row_length → fits plan words ≡ (is_inside words (last_pair plan) && (nat_eq (plan.address % 4) 0) && (nat_lt plan.rows 2 || nat_eq (plan.aligned % 4) 0))
+pub fits_by_last : (plan : TransferPlan) (words : ℕ) → 1 ≤ plan.rows → 1 ≤ plan.row_length → fits plan words ≡ (is_inside words (last_pair plan) && (nat_eq (plan.address % 4) 0) && (nat_lt plan.rows 2 || nat_eq (plan.aligned % 4) 0))
 unfolding fits
 fits_by_last plan words some_rows some_words = rw (all_by_last plan words (is_inside words (last_pair plan)) some_rows some_words refl) refl
 
@@ -114,7 +114,7 @@ together true b c = refl
 together false b c = refl
 
 -- the same, by two tests
-pub fits_of_tests : (plan : Plan) (words word row column : ℕ) (inside aligned : Bool) → 1 ≤ plan.rows → 1 ≤ plan.row_length
+pub fits_of_tests : (plan : TransferPlan) (words word row column : ℕ) (inside aligned : Bool) → 1 ≤ plan.rows → 1 ≤ plan.row_length
     → word ≡ (last_pair plan).word → row ≡ (last_pair plan).row → column ≡ (last_pair plan).column
     → inside ≡ (nat_lt word words && nat_lt row 64 && nat_lt column 16)
     → aligned ≡ (nat_eq (plan.address % 4) 0 && (nat_lt plan.rows 2 || nat_eq (plan.aligned % 4) 0))
@@ -145,7 +145,7 @@ first_replaced true other b c holds all = rw holds all
 first_replaced false other b c holds all = cc
 
 -- what a transfer that may start says of each pair
-pub fitting_inside : (plan : Plan) (words n : ℕ) → IsTrue (fits plan words) → n < pair_count plan → LiesInside words (pair_of plan n)
+pub fitting_inside : (plan : TransferPlan) (words n : ℕ) → IsTrue (fits plan words) → n < pair_count plan → LiesInside words (pair_of plan n)
 unfolding fits
 fitting_inside plan words n may low =
     let all = first_of_three (list_all (is_inside words) (transfer_pairs plan)) (nat_eq (plan.address % 4) 0) (nat_lt plan.rows 2 || nat_eq (plan.aligned % 4) 0) may in
@@ -153,21 +153,21 @@ fitting_inside plan words n may low =
     inside_facts words (pair_of plan n) (sym (ap (is_inside words) (get_or-transfer_pairs plan n (pair_of plan n) low)) ∙ each)
 
 -- what it says of its address
-pub fitting_address : (plan : Plan) (words : ℕ) → IsTrue (fits plan words) → plan.address % 4 ≡ 0
+pub fitting_address : (plan : TransferPlan) (words : ℕ) → IsTrue (fits plan words) → plan.address % 4 ≡ 0
 unfolding fits
 fitting_address plan words may =
     let holds = second_of_three (list_all (is_inside words) (transfer_pairs plan)) (nat_eq (plan.address % 4) 0) (nat_lt plan.rows 2 || nat_eq (plan.aligned % 4) 0) may in
     grind (arith, nat_tests)
 
 -- and of its pitch or stride
-pub fitting_step : (plan : Plan) (words : ℕ) → IsTrue (fits plan words) → (plan.rows < 2) ⊎ (plan.aligned % 4 ≡ 0)
+pub fitting_step : (plan : TransferPlan) (words : ℕ) → IsTrue (fits plan words) → (plan.rows < 2) ⊎ (plan.aligned % 4 ≡ 0)
 unfolding fits
 fitting_step plan words may =
     let holds = third_of_three (list_all (is_inside words) (transfer_pairs plan)) (nat_eq (plan.address % 4) 0) (nat_lt plan.rows 2 || nat_eq (plan.aligned % 4) 0) may in
     grind (arith, nat_tests)
 
 -- a transfer that may start in a memory may start in a greater one
-pub fits_greater : (plan : Plan) (words more : ℕ) → words ≤ more → IsTrue (fits plan words) → IsTrue (fits plan more)
+pub fits_greater : (plan : TransferPlan) (words more : ℕ) → words ≤ more → IsTrue (fits plan words) → IsTrue (fits plan more)
 unfolding fits
 fits_greater plan words more great may =
     first_replaced (list_all (is_inside words) (transfer_pairs plan)) (list_all (is_inside more) (transfer_pairs plan)) (nat_eq (plan.address % 4) 0) (nat_lt plan.rows 2 || nat_eq (plan.aligned % 4) 0)
@@ -184,7 +184,7 @@ few_of_last true r c j k p apart row column = (omega (arith, le-mul_of_pos_right
 few_of_last false r c j k p apart row column = (omega (arith, le-mul_of_pos_right {m = p} k apart), omega arith)
 
 -- a transfer that may start has few rows of few words
-pub fitting_few : (plan : Plan) (words : ℕ) → 1 ≤ plan.rows → 1 ≤ plan.row_length → 1 ≤ plan.vpm_pitch → IsTrue (fits plan words) → (plan.rows ≤ 64) × (plan.row_length ≤ 64)
+pub fitting_few : (plan : TransferPlan) (words : ℕ) → 1 ≤ plan.rows → 1 ≤ plan.row_length → 1 ≤ plan.vpm_pitch → IsTrue (fits plan words) → (plan.rows ≤ 64) × (plan.row_length ≤ 64)
 fitting_few plan words some_rows some_words apart may =
     let more : pair_count plan - 1 < pair_count plan = omega (arith, count_is plan.rows plan.row_length some_rows some_words) in
     let last : LiesInside words (last_pair plan) = rw (last_is plan some_rows some_words) at (fitting_inside plan words (pair_count plan - 1) may more) in
@@ -192,8 +192,8 @@ fitting_few plan words some_rows some_words apart may =
     (omega (arith, few.0), omega (arith, few.1))
 
 -- a movable plan has few rows of few words
-pub movable_rows : (plan : Plan) → IsMovable plan → plan.rows ≤ 64
+pub movable_rows : (plan : TransferPlan) → IsMovable plan → plan.rows ≤ 64
 movable_rows plan may = (fitting_few plan (2 ^ 32 - 1) may.possible.some_rows may.possible.some_words may.possible.apart may.fits).0
 
-pub movable_length : (plan : Plan) → IsMovable plan → plan.row_length ≤ 64
+pub movable_length : (plan : TransferPlan) → IsMovable plan → plan.row_length ≤ 64
 movable_length plan may = (fitting_few plan (2 ^ 32 - 1) may.possible.some_rows may.possible.some_words may.possible.apart may.fits).1

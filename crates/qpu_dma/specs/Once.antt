@@ -3,14 +3,14 @@ use Rattle.std.specs.Prelude.{◌≢◌, ℕ, ◌+◌, ◌*◌, ◌/◌, ◌%◌
 use Rattle.qpu_word.specs.declared.code.TheConstants.{VPM_COLUMNS}
 use Rattle.qpu_dma.specs.declared.Pair.{Pair}
 use Rattle.qpu_dma.specs.declared.transfer.Transfer.{Transfer}
-use Rattle.qpu_dma.specs.Transfers.{Plan, load_plan, store_plan, pair_at, fits}
+use Rattle.qpu_dma.specs.Transfers.{TransferPlan, load_plan, store_plan, pair_at, fits}
 
 -- how many pairs a transfer has
-abbrev pub pair_count : Plan → ℕ
+abbrev pub pair_count : TransferPlan → ℕ
 pair_count plan = plan.rows * plan.row_length
 
 -- pair n of a transfer, from 0
-abbrev pub pair_of : Plan → ℕ → Pair
+abbrev pub pair_of : TransferPlan → ℕ → Pair
 pair_of plan n = pair_at plan (n / plan.row_length) (n % plan.row_length)
 
 -- the place of a pair's cell in the list of the VPM's words

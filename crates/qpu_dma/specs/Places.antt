@@ -2,11 +2,11 @@
 use Rattle.std.specs.Prelude.{ℕ, ◌-◌, ◌^◌, ◌<◌, ◌≤◌, IsTrue}
 use Rattle.qpu_dma.specs.declared.places.Places.{Places}
 use Rattle.qpu_dma.specs.declared.transfer.Transfer.{Transfer}
-use Rattle.qpu_dma.specs.Transfers.{Plan, fits}
+use Rattle.qpu_dma.specs.Transfers.{TransferPlan, fits}
 
 -- the plan of places
-abbrev pub plan_of : Places → Plan
-plan_of places = record {
+abbrev pub transfer_plan_of : Places → TransferPlan
+transfer_plan_of places = record {
   rows = places.rows;
   row_length = places.length;
   address = places.address;
@@ -19,8 +19,8 @@ plan_of places = record {
 }
 
 -- the places of a plan
-abbrev pub places_of : Plan → Places
-places_of plan = record {
+abbrev pub transfer_places : TransferPlan → Places
+transfer_places plan = record {
   rows = plan.rows;
   length = plan.row_length;
   address = plan.address;
@@ -38,7 +38,7 @@ transfer_of setup step address = record { setup = setup; step = step; address = 
 
 -- what each setup gives: some rows of some words, rows apart in the VPM, and a pitch whose sums
 -- stay below 2^64
-pub record IsPossible (plan : Plan) : Type 0 where
+pub record IsPossible (plan : TransferPlan) : Type 0 where
   pub some_rows : 1 ≤ plan.rows
   pub rows : plan.rows ≤ 128
   pub some_words : 1 ≤ plan.row_length
@@ -47,6 +47,6 @@ pub record IsPossible (plan : Plan) : Type 0 where
   pub pitch : plan.pitch < 2 ^ 33
 
 -- such a plan that may start, in the greatest memory whose length has 32 bits at least
-pub record IsMovable (plan : Plan) : Type 0 where
+pub record IsMovable (plan : TransferPlan) : Type 0 where
   pub possible : IsPossible plan
   pub fits : IsTrue (fits plan (2 ^ 32 - 1))

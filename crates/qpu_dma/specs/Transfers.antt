@@ -12,7 +12,7 @@ use Rattle.qpu_dma.specs.declared.transfer.Transfer.{Transfer}
 -- the places of a transfer: rows of so many words; the byte address, and the bytes from a row to
 -- the next; the first VPM row and column, whether a row of it stands upright there, and the step
 -- from a row to the next; and the number that has to be a multiple of four bytes
-pub record Plan : Type 0 where
+pub record TransferPlan : Type 0 where
   pub rows : ℕ
   pub row_length : ℕ
   pub address : ℕ
@@ -28,7 +28,7 @@ abbrev pub load_pitch : ℕ → ℕ → ℕ
 load_pitch setup extended = if field setup 24 4 == 0 then extended else 8 * 2 ^ field setup 24 4
 
 -- the places of a load
-unfoldable pub load_plan : Transfer → Plan
+unfoldable pub load_plan : Transfer → TransferPlan
 load_plan t = record {
   rows = counted (field t.setup 16 4) 16;
   row_length = counted (field t.setup 20 4) 16;
@@ -46,7 +46,7 @@ abbrev pub store_depth : ℕ → ℕ
 store_depth setup = counted (field setup 16 7) 128
 
 -- the places of a store
-unfoldable pub store_plan : Transfer → Plan
+unfoldable pub store_plan : Transfer → TransferPlan
 store_plan t = record {
   rows = counted (field t.setup 23 7) 128;
   row_length = store_depth t.setup;
@@ -60,7 +60,7 @@ store_plan t = record {
 }
 
 -- row k, element j of a transfer
-abbrev pub pair_at : Plan → ℕ → ℕ → Pair
+abbrev pub pair_at : TransferPlan → ℕ → ℕ → Pair
 pair_at plan k j = record {
   word = (plan.address + k * plan.pitch + 4 * j) / 4;
   row = (if plan.vertical then plan.row + j else plan.row + k * plan.vpm_pitch);
@@ -68,7 +68,7 @@ pair_at plan k j = record {
 }
 
 -- the pairs of a transfer, row by row
-unfoldable pub transfer_pairs : Plan → List Pair
+unfoldable pub transfer_pairs : TransferPlan → List Pair
 transfer_pairs plan =
     map (λ n. pair_at plan (n / plan.row_length) (n % plan.row_length)) (range_with_len 0 (plan.rows * plan.row_length))
 
@@ -78,7 +78,7 @@ is_inside words pair = nat_lt pair.word words && nat_lt pair.row VPM_ROWS && nat
 
 -- a transfer that may start: each pair lies inside, the address is a multiple of 4, and so is the
 -- pitch or stride where there is more than one row
-unfoldable pub fits : Plan → ℕ → Bool
+unfoldable pub fits : TransferPlan → ℕ → Bool
 fits plan words =
     list_all (is_inside words) (transfer_pairs plan)
     && (plan.address % 4 == 0)

@@ -1,7 +1,7 @@
 ghost use Rattle.std.specs.Prelude.{◌≡◌, ◌<◌, ◌≤◌, ◌*◌, ◌/◌, ◌%◌, ◌↔◌, ℕ, IsOk, IfOk, IsTrue, Some};
 ghost use Rattle.std.specs.List.{slice_get};
 ghost use Rattle.qpu_dma.specs.Transfers.{load_plan, load_pitch, fits, pair_at, transfer_pairs};
-ghost use Rattle.qpu_dma.specs.Places.{plan_of, transfer_of, IsPossible};
+ghost use Rattle.qpu_dma.specs.Places.{transfer_plan_of, transfer_of, IsPossible};
 
 use crate::bits::{bits, counted_bits};
 use crate::places::Places;
@@ -16,17 +16,17 @@ pub struct LoadPlan {
 }
 
 impl Model for LoadPlan {
-    ghost use Rattle.qpu_dma.specs.Transfers.{Plan};
+    ghost use Rattle.qpu_dma.specs.Transfers.{TransferPlan};
 
-    ghost Value = { Plan };
+    ghost Value = { TransferPlan };
 
-    ghost use Rattle.qpu_dma.specs.Places.{plan_of, places_of, IsMovable};
+    ghost use Rattle.qpu_dma.specs.Places.{transfer_plan_of, transfer_places, IsMovable};
 
-    ghost view = { λ inside. plan_of inside.places };
+    ghost view = { λ inside. transfer_plan_of inside.places };
 
-    ghost invariant = { λ inside. IsMovable (plan_of inside.places) };
+    ghost invariant = { λ inside. IsMovable (transfer_plan_of inside.places) };
 
-    ghost inverse = { λ plan. record { places = places_of plan } };
+    ghost inverse = { λ plan. record { places = transfer_places plan } };
 }
 
 /// A pitch code p, 1 to 15, stands for 8 * 2^p bytes.
@@ -47,8 +47,8 @@ fn load_pitch(setup: u32, extended: u32) -> u32
 /// The places of a load.
 #[tactic(auto, unfolding(crate::specs::Transfers::load_plan))]
 fn places(setup: u32, pitch: u32, address: u32) -> Places
-    ensures plan { plan_of result ≡ load_plan (transfer_of setup pitch address) }
-    ensures possible { IsPossible (plan_of result) }
+    ensures plan { transfer_plan_of result ≡ load_plan (transfer_of setup pitch address) }
+    ensures possible { IsPossible (transfer_plan_of result) }
 {
     let pitch = load_pitch(setup, pitch);
     Places {

@@ -1,13 +1,10 @@
 ghost use Rattle.std.specs.Prelude.{◌≡◌, ◌<◌, ◌≤◌, ◌+◌, ◌*◌, ◌/◌, ◌%◌, ◌^◌, ◌==◌, ◌&&◌, ◌||◌, nat_lt, ℕ, IsTrue, Some};
 ghost use Rattle.std.specs.List.{slice_get};
 ghost use Rattle.qpu_dma.specs.Transfers.{fits, pair_at, transfer_pairs};
-ghost use Rattle.qpu_dma.specs.Places.{plan_of, IsPossible, IsMovable};
+ghost use Rattle.qpu_dma.specs.Places.{transfer_plan_of, IsPossible, IsMovable};
 
 use crate::Pair;
-use qpu_word::code::{VPM_COLUMNS, VPM_ROWS};
-
-/// The bytes of a word.
-pub(crate) const WORD: u32 = 4;
+use qpu_word::code::{VPM_COLUMNS, VPM_ROWS, WORD_BYTES};
 
 /// The places of a transfer: rows of so many words.
 #[derive(Clone, Copy, Debug)]
@@ -57,20 +54,22 @@ impl Places {
         requires k { k < 128 }
         requires j { j < 128 }
         requires pitch { self.now.pitch < 2 ^ 33 }
-        ensures word { result.word ≡ (pair_at (plan_of self.now) k j).word }
-        ensures row { result.row ≡ (pair_at (plan_of self.now) k j).row }
-        ensures column { result.column ≡ (pair_at (plan_of self.now) k j).column }
+        ensures word { result.word ≡ (pair_at (transfer_plan_of self.now) k j).word }
+        ensures row { result.row ≡ (pair_at (transfer_plan_of self.now) k j).row }
+        ensures column { result.column ≡ (pair_at (transfer_plan_of self.now) k j).column }
     {
         let along = u64::from(j);
         let across = u64::from(k) * u64::from(self.vpm_pitch);
-        let bytes = u64::from(self.address) + u64::from(k) * self.pitch + u64::from(WORD) * along;
+        let bytes = u64::from(self.address)
+            + u64::from(k) * self.pitch
+            + u64::from(WORD_BYTES) * along;
         let (down, right) = if self.vertical {
             (along, across)
         } else {
             (across, along)
         };
         Spot {
-            word: bytes / u64::from(WORD),
+            word: bytes / u64::from(WORD_BYTES),
             row: u64::from(self.row) + down,
             column: u64::from(self.column) + right,
         }
@@ -81,14 +80,14 @@ impl Places {
     fn is_aligned(&self) -> bool
         ensures { result ≡ ((self.now.address % 4 == 0) && (nat_lt self.now.rows 2 || (self.now.aligned % 4 == 0))) }
     {
-        self.address % WORD == 0 && (self.rows < 2 || self.aligned % WORD == 0)
+        self.address % WORD_BYTES == 0 && (self.rows < 2 || self.aligned % WORD_BYTES == 0)
     }
 
     /// Whether the transfer may start, for a memory of so many words. No pair has a greater word,
     /// row or column than the last, so the last alone is asked.
     pub(crate) fn fits(&self, words: u32) -> bool
-        requires { IsPossible (plan_of self.now) }
-        ensures { result ≡ fits (plan_of self.now) words }
+        requires { IsPossible (transfer_plan_of self.now) }
+        ensures { result ≡ fits (transfer_plan_of self.now) words }
     {
         let last = self.spot(self.rows - 1, self.length - 1);
         last.is_inside(words) && self.is_aligned()
@@ -96,11 +95,11 @@ impl Places {
 
     /// Pair k, from 0, row by row.
     pub(crate) fn pair(&self, k: u32) -> Pair
-        requires movable { IsMovable (plan_of self.now) }
+        requires movable { IsMovable (transfer_plan_of self.now) }
         requires k { k < self.now.rows * self.now.length }
-        ensures pair { result ≡ pair_at (plan_of self.now) (k / self.now.length) (k % self.now.length) }
-        ensures listed { slice_get (transfer_pairs (plan_of self.now)) k ≡ Some result }
-        ensures word { (words : ℕ) → IsTrue (fits (plan_of self.now) words) → result.word < words }
+        ensures pair { result ≡ pair_at (transfer_plan_of self.now) (k / self.now.length) (k % self.now.length) }
+        ensures listed { slice_get (transfer_pairs (transfer_plan_of self.now)) k ≡ Some result }
+        ensures word { (words : ℕ) → IsTrue (fits (transfer_plan_of self.now) words) → result.word < words }
         ensures row { result.row < VPM_ROWS }
         ensures column { result.column < VPM_COLUMNS }
     {

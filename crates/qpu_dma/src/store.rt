@@ -1,11 +1,12 @@
 ghost use Rattle.std.specs.Prelude.{◌≡◌, ◌<◌, ◌≤◌, ◌*◌, ◌/◌, ◌%◌, ◌↔◌, ℕ, IsOk, IfOk, IsTrue, Some};
 ghost use Rattle.std.specs.List.{slice_get};
 ghost use Rattle.qpu_dma.specs.Transfers.{store_plan, fits, pair_at, transfer_pairs};
-ghost use Rattle.qpu_dma.specs.Places.{plan_of, transfer_of, IsPossible};
+ghost use Rattle.qpu_dma.specs.Places.{transfer_plan_of, transfer_of, IsPossible};
 
 use crate::bits::{bits, counted_bits};
-use crate::places::{Places, WORD};
+use crate::places::Places;
 use crate::{Pair, TransferOut};
+use qpu_word::code::WORD_BYTES;
 use std::marker::Model;
 
 /// A DMA store that may start: the pairs of memory words and VPM cells that it moves. Contracts
@@ -16,31 +17,31 @@ pub struct StorePlan {
 }
 
 impl Model for StorePlan {
-    ghost use Rattle.qpu_dma.specs.Transfers.{Plan};
+    ghost use Rattle.qpu_dma.specs.Transfers.{TransferPlan};
 
-    ghost Value = { Plan };
+    ghost Value = { TransferPlan };
 
-    ghost use Rattle.qpu_dma.specs.Places.{plan_of, places_of, IsMovable};
+    ghost use Rattle.qpu_dma.specs.Places.{transfer_plan_of, transfer_places, IsMovable};
 
-    ghost view = { λ inside. plan_of inside.places };
+    ghost view = { λ inside. transfer_plan_of inside.places };
 
-    ghost invariant = { λ inside. IsMovable (plan_of inside.places) };
+    ghost invariant = { λ inside. IsMovable (transfer_plan_of inside.places) };
 
-    ghost inverse = { λ plan. record { places = places_of plan } };
+    ghost inverse = { λ plan. record { places = transfer_places plan } };
 }
 
 /// The places of a store.
 #[tactic(auto, unfolding(crate::specs::Transfers::store_plan))]
 fn places(setup: u32, stride: u32, address: u32) -> Places
-    ensures plan { plan_of result ≡ store_plan (transfer_of setup stride address) }
-    ensures possible { IsPossible (plan_of result) }
+    ensures plan { transfer_plan_of result ≡ store_plan (transfer_of setup stride address) }
+    ensures possible { IsPossible (transfer_plan_of result) }
 {
     let depth = counted_bits(setup, 16, 7);
     Places {
         rows: counted_bits(setup, 23, 7),
         length: depth,
         address,
-        pitch: u64::from(WORD) * u64::from(depth) + u64::from(stride),
+        pitch: u64::from(WORD_BYTES) * u64::from(depth) + u64::from(stride),
         row: bits(setup, 7, 7),
         column: bits(setup, 3, 4),
         vertical: bits(setup, 14, 1) == 0,

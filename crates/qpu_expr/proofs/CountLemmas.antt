@@ -15,7 +15,7 @@ use Rattle.qpu_expr.specs.Symbols.{fault_at}
 use Rattle.qpu_expr.specs.LineTokens.{LineTokens}
 use Rattle.qpu_expr.specs.Lines.{label_of, behind_label, head_of}
 use Rattle.qpu_expr.specs.StageParts.{Stage}
-use Rattle.qpu_expr.specs.Stage.{too_long, counted, turn_counted, labelled, leaves, changed}
+use Rattle.qpu_expr.specs.Stage.{too_long, tokens_counted, turn_counted, labelled, leaves, changed}
 use Rattle.qpu_expr.specs.Deeds.{deed_by, done_by, line_does, closing_deed, closes}
 use Rattle.qpu_expr.proofs.RoomLemmas.{word_room}
 use Rattle.qpu_expr.proofs.KeepLemmas.{Runs, Keeps}
@@ -36,7 +36,7 @@ turn_counts place s c = by_test (nat_le MOST_LINES s.reached)
     by_test true = tt
     by_test false = record { same = c.same; few = c.few }
 
-label_counts : (text : List ℕ) (label : Option Token) (line : LineTokens) (s : Stage) → IsCounted s → IsCounted (labelled text label (counted line s))
+label_counts : (text : List ℕ) (label : Option Token) (line : LineTokens) (s : Stage) → IsCounted s → IsCounted (labelled text label (tokens_counted line s))
 label_counts text None line s c = record { same = c.same; few = c.few }
 label_counts text (Some name) line s c = record { same = c.same; few = c.few }
 
@@ -50,14 +50,14 @@ change_counts text (change.Leaves line) s c room =
     let few = room refl in
     record { same = omega (arith, more, same); few = omega (arith, few) }
 
-label_words : (text : List ℕ) (label : Option Token) (line : LineTokens) (s : Stage) → s.words < MOST_WORDS → (labelled text label (counted line s)).words < MOST_WORDS
+label_words : (text : List ℕ) (label : Option Token) (line : LineTokens) (s : Stage) → s.words < MOST_WORDS → (labelled text label (tokens_counted line s)).words < MOST_WORDS
 label_words text None line s few = few
 label_words text (Some name) line s few = few
 
 done_counts : (text : List ℕ) (line : LineTokens) (d : Deed) (s : Stage) → IsCounted s → IfOk (done_by text line d s) (λ p. IsCounted p.1)
 done_counts text line d s c =
     done_gives (λ p. IsCounted p.1) text line d s
-    (λ none. change_counts text d.change (labelled text label (counted line s)) (label_counts text label line s c)
+    (λ none. change_counts text d.change (labelled text label (tokens_counted line s)) (label_counts text label line s c)
     (λ left. label_words text label line s (word_room s line (subst (λ w. too_long s line w ≡ None) left none))))
   where
     label : Option Token

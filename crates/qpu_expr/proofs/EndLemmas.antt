@@ -18,7 +18,7 @@ use Rattle.qpu_expr.specs.declared.deed.Deed.{Deed}
 use Rattle.qpu_expr.specs.Symbols.{symbol_of}
 use Rattle.qpu_expr.specs.Settings.{Sets, expression}
 use Rattle.qpu_expr.specs.Tables.{found}
-use Rattle.qpu_expr.specs.Operands.{is_name, instruction}
+use Rattle.qpu_expr.specs.Operands.{is_name, instruction_work}
 use Rattle.qpu_expr.specs.LineTokens.{LineTokens}
 use Rattle.qpu_expr.specs.Lines.{moved_to, Lining, no_line, ends, lined, lines_of, body_length}
 use Rattle.qpu_expr.specs.MacroTokens.{MacroTokens}
@@ -154,7 +154,7 @@ call_ends text deepest end line m all = record { act = replaced_ends text m.para
 
 instruction_ends : (text : List ℕ) (sets : Sets) (end : Token) (line : List Token) → end.kind ≡ kind.LineEnd → DeedEnds (instruction_deed text sets end line)
 unfolding instruction_deed
-instruction_ends text sets end line e = record { act = tt; change = with_end (instruction text sets line).tokens end e }
+instruction_ends text sets end line e = record { act = tt; change = with_end (instruction_work text sets line).tokens end e }
 
 text_ends : (text : List ℕ) (s : Stage) (deepest : Bool) (end : Token) (line : List Token) → end.kind ≡ kind.LineEnd → All BodyEnds s.macros → DeedEnds (text_deed text s deepest end line)
 unfolding text_deed

@@ -10,7 +10,7 @@ use Rattle.qpu_expr.specs.LineTokens.{LineTokens}
 use Rattle.qpu_expr.specs.StageParts.{Stage}
 use Rattle.qpu_expr.specs.Stage.{turn_counted}
 use Rattle.qpu_expr.specs.Deeds.{line_does, closes}
-use Rattle.qpu_expr.specs.Expansion.{Outcome, then, turns, closed, performed, taken, lines_run, nothing_run, run_within}
+use Rattle.qpu_expr.specs.Expansion.{RunResult, then, turns, closed, performed, taken, lines_run, nothing_run, run_within}
 
 -- something holds of the lines that an act brings
 abbrev pub Runs : (LineTokens → Type 0) → Act → Type 0
@@ -26,7 +26,7 @@ pub record Keeps (text : List ℕ) (P : Stage → Type 0) (Q : LineTokens → Ty
   pub close : (line : LineTokens) (s : Stage) → Q line → P s → IfOk (closes text line s) (λ p. P p.1)
 
 -- lines that are run keep P
-abbrev KeepsBy : (Stage → Type 0) → (LineTokens → Type 0) → (List LineTokens → Stage → Outcome) → Type 0
+abbrev KeepsBy : (Stage → Type 0) → (LineTokens → Type 0) → (List LineTokens → Stage → RunResult) → Type 0
 KeepsBy P Q run = (lines : List LineTokens) (s : Stage) → All Q lines → P s → IfOk (run lines s) P
 
 pub then_keeps : {A B : Type 0} (P : A → Type 0) (R : B → Type 0) (r : Result A AsmFault) (next : A → Result B AsmFault) → IfOk r P → ((a : A) → P a → IfOk (next a) R) → IfOk (then r next) R
@@ -38,7 +38,7 @@ line_at Q [] k all = tt
 line_at Q (line ∷ lines) zero all = All-head Q line lines all
 line_at Q (line ∷ lines) (suc k) all = line_at Q lines k (All-tail Q line lines all)
 
-turns_keep : (text : List ℕ) (P : Stage → Type 0) (Q : LineTokens → Type 0) → Keeps text P Q → (run : Stage → Outcome) (place : Place) (n : ℕ) (s : Stage) → ((s : Stage) → P s → IfOk (run s) P) → P s → IfOk (turns run place n s) P
+turns_keep : (text : List ℕ) (P : Stage → Type 0) (Q : LineTokens → Type 0) → Keeps text P Q → (run : Stage → RunResult) (place : Place) (n : ℕ) (s : Stage) → ((s : Stage) → P s → IfOk (run s) P) → P s → IfOk (turns run place n s) P
 turns_keep text P Q keeps run place zero s runs p = p
 turns_keep text P Q keeps run place (suc n) s runs p =
     then_keeps P P (turn_counted place s) (λ s. then (run s) (turns run place n)) (keeps.turn place s p)
@@ -48,7 +48,7 @@ closed_keeps : (text : List ℕ) (P : Stage → Type 0) (Q : LineTokens → Type
 closed_keeps text P Q keeps None s q p = p
 closed_keeps text P Q keeps (Some line) s q p = then_keeps (λ a. P a.1) P (closes text line s) (λ a. Ok a.1) (keeps.close line s q p) (λ a h. h)
 
-performed_keeps : (text : List ℕ) (P : Stage → Type 0) (Q : LineTokens → Type 0) → Keeps text P Q → (run : List LineTokens → Stage → Outcome) → KeepsBy P Q run → (a : Act) (behind : List LineTokens) (s : Stage) → Runs Q a → All Q behind → P s → IfOk (performed text run a behind s) P
+performed_keeps : (text : List ℕ) (P : Stage → Type 0) (Q : LineTokens → Type 0) → Keeps text P Q → (run : List LineTokens → Stage → RunResult) → KeepsBy P Q run → (a : Act) (behind : List LineTokens) (s : Stage) → Runs Q a → All Q behind → P s → IfOk (performed text run a behind s) P
 performed_keeps text P Q keeps run runs act.Nothing behind s q all p = p
 performed_keeps text P Q keeps run runs (act.Repeats n place lines) behind s q all p =
     then_keeps P P (turns (run (take lines behind)) place n s) (closed text (slice_get behind lines))
@@ -57,7 +57,7 @@ performed_keeps text P Q keeps run runs (act.Repeats n place lines) behind s q a
 performed_keeps text P Q keeps run runs (act.Passes lines) behind s q all p = closed_keeps text P Q keeps (slice_get behind lines) s (line_at Q behind lines all) p
 performed_keeps text P Q keeps run runs (act.Calls body) behind s q all p = runs body s q p
 
-lines_keep : (text : List ℕ) (P : Stage → Type 0) (Q : LineTokens → Type 0) → Keeps text P Q → (run : List LineTokens → Stage → Outcome) → KeepsBy P Q run → (deepest : Bool) (skip : ℕ) (lines : List LineTokens) (s : Stage) → All Q lines → P s → IfOk (lines_run text run deepest skip lines s) P
+lines_keep : (text : List ℕ) (P : Stage → Type 0) (Q : LineTokens → Type 0) → Keeps text P Q → (run : List LineTokens → Stage → RunResult) → KeepsBy P Q run → (deepest : Bool) (skip : ℕ) (lines : List LineTokens) (s : Stage) → All Q lines → P s → IfOk (lines_run text run deepest skip lines s) P
 lines_keep text P Q keeps run runs deepest skip [] s all p = p
 lines_keep text P Q keeps run runs deepest (suc skip) (line ∷ lines) s all p = lines_keep text P Q keeps run runs deepest skip lines s (All-tail Q line lines all) p
 lines_keep text P Q keeps run runs deepest zero (line ∷ lines) s all p =

@@ -11,7 +11,7 @@ use Rattle.qpu_expr.specs.declared.deed.Findings.{Findings}
 use Rattle.qpu_expr.specs.declared.deed.Deed.{Deed}
 use Rattle.qpu_expr.specs.declared.stop.Stop.{Stop}
 use Rattle.qpu_expr.specs.declared.stop.Stop.TheVariants.{Fault, Memory}
-use Rattle.qpu_expr.specs.Leads.{StopsAt}
+use Rattle.qpu_expr.specs.Leads.{StopsBy}
 use Rattle.qpu_expr.specs.Symbols.{place_of}
 use Rattle.qpu_expr.specs.Operands.{is_name}
 use Rattle.qpu_expr.specs.LineTokens.{LineTokens}
@@ -20,7 +20,7 @@ use Rattle.qpu_expr.specs.Macros.{Macros}
 use Rattle.qpu_expr.specs.Lines.{is_colon, label_of, behind_label, head_of}
 use Rattle.qpu_expr.specs.StageParts.{Stage}
 use Rattle.qpu_expr.specs.Stage.{line_place, too_long, leaves, label_twice}
-use Rattle.qpu_expr.specs.Findings.{no_findings, place_in, when, left_deed}
+use Rattle.qpu_expr.specs.Findings.{no_findings, place_in, place_when, left_deed}
 use Rattle.qpu_expr.specs.Directives.{stray_deed}
 use Rattle.qpu_expr.specs.Calls.{called, call_deed, text_deed}
 use Rattle.qpu_expr.specs.Deeds.{deed_by, least_fault, done_by, line_does}
@@ -136,7 +136,7 @@ unfolding line_does
 line_head text deepest line behind s h e = ap (λ h. done_by text line (deed_by text s deepest line.end line.tokens (behind_label text line.tokens) behind h) s) e
 
 -- why a long line stops the expansion, by its first tokens and what it begins with
-pub long_stops : (text : List ℕ) (deepest : Bool) (line : LineTokens) (behind : List LineTokens) (s : Stage) (n : ℕ) (first : LineTokens) (h : Head) (word : Bool) (deep : Option Place) (stop : Stop) → first ≡ record { tokens = take n line.tokens; end = line.end } → MOST_TOKENS < n → MOST_TOKENS < length line.tokens → head_of text (behind_label text first.tokens) ≡ h → IsTold word deep (deed_by text s deepest line.end line.tokens (behind_label text line.tokens) behind h) → ((fault : AsmFault) → stop ≡ Fault fault → least_fault (label_twice text s.labels (label_of text first.tokens)) (too_long s first word) (record no_findings { deep = deep }) ≡ Some fault) → StopsAt (line_does text deepest line behind s) stop
+pub long_stops : (text : List ℕ) (deepest : Bool) (line : LineTokens) (behind : List LineTokens) (s : Stage) (n : ℕ) (first : LineTokens) (h : Head) (word : Bool) (deep : Option Place) (stop : Stop) → first ≡ record { tokens = take n line.tokens; end = line.end } → MOST_TOKENS < n → MOST_TOKENS < length line.tokens → head_of text (behind_label text first.tokens) ≡ h → IsTold word deep (deed_by text s deepest line.end line.tokens (behind_label text line.tokens) behind h) → ((fault : AsmFault) → stop ≡ Fault fault → least_fault (label_twice text s.labels (label_of text first.tokens)) (too_long s first word) (record no_findings { deep = deep }) ≡ Some fault) → StopsBy (line_does text deepest line behind s) stop
 long_stops text deepest line behind s n first h word deep Memory is many more e told least = tt
 long_stops text deepest line behind s n first h word deep (Fault fault) is many more e told least =
     let same = by_front (λ ts. head_of text (behind_label text ts)) n line.tokens (omega (arith, many)) (head_front text) in
@@ -155,19 +155,19 @@ call_does : (text : List ℕ) (s : Stage) (deepest : Bool) (end : Token) (line :
 unfolding text_deed
 call_does text s deepest end line m e = rw e refl
 
-call_told : (text : List ℕ) (deepest : Bool) (end : Token) (line : List Token) (m : MacroTokens) → IsTold false (when deepest (place_in end line)) (call_deed text deepest end line m)
+call_told : (text : List ℕ) (deepest : Bool) (end : Token) (line : List Token) (m : MacroTokens) → IsTold false (place_when deepest (place_in end line)) (call_deed text deepest end line m)
 unfolding call_deed
 call_told text deepest end line m = record { word_same = refl; no_unknown = refl; no_twice = refl; deep_same = refl }
 
-pub some_call_told : (text : List ℕ) (s : Stage) (deepest : Bool) (line first : LineTokens) (n : ℕ) → first ≡ record { tokens = take n line.tokens; end = line.end } → MOST_TOKENS < n → is_some (called text s.macros (behind_label text first.tokens)) ≡ true → IsTold false (when deepest (place_in first.end (behind_label text first.tokens))) (text_deed text s deepest line.end (behind_label text line.tokens))
+pub some_call_told : (text : List ℕ) (s : Stage) (deepest : Bool) (line first : LineTokens) (n : ℕ) → first ≡ record { tokens = take n line.tokens; end = line.end } → MOST_TOKENS < n → is_some (called text s.macros (behind_label text first.tokens)) ≡ true → IsTold false (place_when deepest (place_in first.end (behind_label text first.tokens))) (text_deed text s deepest line.end (behind_label text line.tokens))
 some_call_told text s deepest line first n is many some =
     let calls = by_front (λ ts. called text s.macros (behind_label text ts)) n line.tokens (omega (arith, many)) (called_behind text s.macros) in
     let place = by_front (λ ts. place_in line.end (behind_label text ts)) n line.tokens (omega (arith, many)) (place_behind text line.end) in
     let there = subst (λ (l : LineTokens). is_some (called text s.macros (behind_label text l.tokens)) ≡ true) is some in
-    subst (λ (l : LineTokens). IsTold false (when deepest (place_in l.end (behind_label text l.tokens))) (text_deed text s deepest line.end (behind_label text line.tokens))) (sym is)
-    (subst (λ p. IsTold false (when deepest p) (text_deed text s deepest line.end (behind_label text line.tokens))) (sym place)
+    subst (λ (l : LineTokens). IsTold false (place_when deepest (place_in l.end (behind_label text l.tokens))) (text_deed text s deepest line.end (behind_label text line.tokens))) (sym is)
+    (subst (λ p. IsTold false (place_when deepest p) (text_deed text s deepest line.end (behind_label text line.tokens))) (sym place)
     (by_macro (called text s.macros (behind_label text line.tokens)) refl (subst (λ r. is_some r ≡ true) calls there)))
   where
-    by_macro : (r : Option MacroTokens) → called text s.macros (behind_label text line.tokens) ≡ r → is_some r ≡ true → IsTold false (when deepest (place_in line.end (behind_label text line.tokens))) (text_deed text s deepest line.end (behind_label text line.tokens))
+    by_macro : (r : Option MacroTokens) → called text s.macros (behind_label text line.tokens) ≡ r → is_some r ≡ true → IsTold false (place_when deepest (place_in line.end (behind_label text line.tokens))) (text_deed text s deepest line.end (behind_label text line.tokens))
     by_macro None e there = cc
-    by_macro (Some m) e there = subst (λ d. IsTold false (when deepest (place_in line.end (behind_label text line.tokens))) d) (sym (call_does text s deepest line.end (behind_label text line.tokens) m e)) (call_told text deepest line.end (behind_label text line.tokens) m)
+    by_macro (Some m) e there = subst (λ d. IsTold false (place_when deepest (place_in line.end (behind_label text line.tokens))) d) (sym (call_does text s deepest line.end (behind_label text line.tokens) m e)) (call_told text deepest line.end (behind_label text line.tokens) m)

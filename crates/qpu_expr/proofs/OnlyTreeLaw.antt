@@ -12,10 +12,10 @@ use Rattle.qpu_expr.specs.declared.expression.What.TheVariants as what
 use Rattle.qpu_expr.specs.declared.expression.Item.{Item}
 use Rattle.qpu_expr.specs.declared.expression.Phase.{Phase}
 use Rattle.qpu_expr.specs.declared.expression.Phase.TheVariants.{Due, There, Broken, Behind}
-use Rattle.qpu_expr.specs.declared.expression.Outcome.TheVariants.{Whole}
+use Rattle.qpu_expr.specs.declared.expression.Parsed.TheVariants.{Whole}
 use Rattle.qpu_expr.specs.Operators.{Worth, level, combined}
-use Rattle.qpu_expr.specs.Expressions.{Reading, reading, collapse, read_due, read_behind, closed, passed, stepped, ended, finished, outcome_of}
-use Rattle.qpu_expr.specs.Trees.{Tree, number, bracketed, minus, not, two, item, written, worth, Binds, IsTreeOf}
+use Rattle.qpu_expr.specs.Expressions.{Reading, reading, collapse, read_due, read_behind, closed, passed, stepped, ended, finished, parsed_of}
+use Rattle.qpu_expr.specs.Trees.{Tree, number, bracketed, minus, not, two, item, spelled_out, worth, Binds, IsTreeOf}
 use Rattle.qpu_expr.proofs.TreeLaw.{level_small, stays, goes}
 
 -- how tight what comes on a stack has to bind
@@ -44,7 +44,7 @@ looser (two s place a b) least most le binds = (omega (arith, binds.0), binds.1,
 -- the items that lead to a stack
 abbrev Held : List Item → List Frame → Type 0
 Held xs [] = xs ≡ []
-Held xs (frame.Left v s place ∷ stack) = (front : List Item) × (a : Tree) × (xs ≡ front ++ (written a ++ item (what.Binary s) place ∷ [])) × (v ≡ worth a) × Binds (level s) a × (need stack ≤ level s) × Held front stack
+Held xs (frame.Left v s place ∷ stack) = (front : List Item) × (a : Tree) × (xs ≡ front ++ (spelled_out a ++ item (what.Binary s) place ∷ [])) × (v ≡ worth a) × Binds (level s) a × (need stack ≤ level s) × Held front stack
 Held xs (frame.Negate ∷ stack) = (front : List Item) × (place : Place) × (xs ≡ front ++ item (what.Binary sign.Minus) place ∷ []) × Held front stack
 Held xs (frame.Invert ∷ stack) = (front : List Item) × (place : Place) × (xs ≡ front ++ item what.Invert place ∷ []) × Held front stack
 Held xs (frame.Open ∷ stack) = (front : List Item) × (place : Place) × (xs ≡ front ++ item what.Open place ∷ []) × Held front stack
@@ -53,47 +53,47 @@ Held xs (frame.Open ∷ stack) = (front : List Item) × (place : Place) × (xs �
 record Behold (least : ℕ) (xs : List Item) (p : List Frame × Worth) : Type 0 where
   pub front : List Item
   pub tree : Tree
-  pub same : xs ≡ front ++ written tree
+  pub same : xs ≡ front ++ spelled_out tree
   pub held : Held front p.0
   pub worth_is : p.1 ≡ worth tree
   pub binds : Binds least tree
   pub loose : need p.0 ≤ least
 
-collapsed : (least : ℕ) (stack : List Frame) (front : List Item) (tree : Tree) (most : ℕ) → least ≤ 5 → least ≤ most → most ≤ 6 → Binds most tree → need stack ≤ most → Held front stack → Behold least (front ++ written tree) (collapse least stack (worth tree))
+collapsed : (least : ℕ) (stack : List Frame) (front : List Item) (tree : Tree) (most : ℕ) → least ≤ 5 → least ≤ most → most ≤ 6 → Binds most tree → need stack ≤ most → Held front stack → Behold least (front ++ spelled_out tree) (collapse least stack (worth tree))
 collapsed least [] front tree most few le top b n h =
     record { front = front; tree = tree; same = refl; held = h; worth_is = refl; binds = looser tree least most le b; loose = omega arith }
 collapsed least (frame.Open ∷ stack) front tree most few le top b n h =
     record { front = front; tree = tree; same = refl; held = h; worth_is = refl; binds = looser tree least most le b; loose = omega arith }
 collapsed least (frame.Negate ∷ stack) front tree most few le top b n h =
-    let same : h.0 ++ written (minus h.1 tree) ≡ front ++ written tree = sym (ap (λ ys. ys ++ written tree) h.2 ∙ append_assoc h.0 (item (what.Binary sign.Minus) h.1 ∷ []) (written tree)) in
+    let same : h.0 ++ spelled_out (minus h.1 tree) ≡ front ++ spelled_out tree = sym (ap (λ ys. ys ++ spelled_out tree) h.2 ∙ append_assoc h.0 (item (what.Binary sign.Minus) h.1 ∷ []) (spelled_out tree)) in
     subst (λ xs. Behold least xs (collapse least (frame.Negate ∷ stack) (worth tree))) same
     (collapsed least stack h.0 (minus h.1 tree) 6 few (omega arith) (omega arith) (looser tree 6 most (omega arith) b) (need_small stack) h.3)
 collapsed least (frame.Invert ∷ stack) front tree most few le top b n h =
-    let same : h.0 ++ written (not h.1 tree) ≡ front ++ written tree = sym (ap (λ ys. ys ++ written tree) h.2 ∙ append_assoc h.0 (item what.Invert h.1 ∷ []) (written tree)) in
+    let same : h.0 ++ spelled_out (not h.1 tree) ≡ front ++ spelled_out tree = sym (ap (λ ys. ys ++ spelled_out tree) h.2 ∙ append_assoc h.0 (item what.Invert h.1 ∷ []) (spelled_out tree)) in
     subst (λ xs. Behold least xs (collapse least (frame.Invert ∷ stack) (worth tree))) same
     (collapsed least stack h.0 (not h.1 tree) 6 few (omega arith) (omega arith) (looser tree 6 most (omega arith) b) (need_small stack) h.3)
 collapsed least (frame.Left v s place ∷ stack) front tree most few le top b n h =
     by_test (nat_lt (level s) least) refl (λ le. collapsed least stack h.0 (two s place h.1 tree) (level s) few le (let small = level_small s in omega arith) (omega arith, h.4, looser tree (level s + 1) most n b) h.5 h.6)
   where
-    by_test : (t : Bool) → nat_lt (level s) least ≡ t → (least ≤ level s → Behold least (h.0 ++ written (two s place h.1 tree)) (collapse least stack (worth (two s place h.1 tree)))) → Behold least (front ++ written tree) (collapse least (frame.Left v s place ∷ stack) (worth tree))
+    by_test : (t : Bool) → nat_lt (level s) least ≡ t → (least ≤ level s → Behold least (h.0 ++ spelled_out (two s place h.1 tree)) (collapse least stack (worth (two s place h.1 tree)))) → Behold least (front ++ spelled_out tree) (collapse least (frame.Left v s place ∷ stack) (worth tree))
     by_test true t later =
         let low : level s + 1 ≤ least = grind (arith, nat_tests, t) in
         let small = level_small s in
-        subst (λ p. Behold least (front ++ written tree) p) (sym (stays s place v stack least (worth tree) low few))
+        subst (λ p. Behold least (front ++ spelled_out tree) p) (sym (stays s place v stack least (worth tree) low few))
         (record { front = front; tree = tree; same = refl; held = h; worth_is = refl; binds = looser tree least most le b; loose = low })
     by_test false t later =
         let high : least ≤ level s = grind (arith, nat_tests, t) in
-        let same : h.0 ++ written (two s place h.1 tree) ≡ front ++ written tree =
-        sym (ap (λ ys. ys ++ written tree) h.2 ∙ (append_assoc h.0 (written h.1 ++ item (what.Binary s) place ∷ []) (written tree) ∙ ap (λ ys. h.0 ++ ys) (append_assoc (written h.1) (item (what.Binary s) place ∷ []) (written tree)))) in
+        let same : h.0 ++ spelled_out (two s place h.1 tree) ≡ front ++ spelled_out tree =
+        sym (ap (λ ys. ys ++ spelled_out tree) h.2 ∙ (append_assoc h.0 (spelled_out h.1 ++ item (what.Binary s) place ∷ []) (spelled_out tree) ∙ ap (λ ys. h.0 ++ ys) (append_assoc (spelled_out h.1) (item (what.Binary s) place ∷ []) (spelled_out tree)))) in
         let same_worth : collapse least stack (worth (two s place h.1 tree)) ≡ collapse least (frame.Left v s place ∷ stack) (worth tree) =
         sym (goes s place v (worth tree) stack least high ∙ ap (λ w. collapse least stack (combined s place w (worth tree))) h.3) in
         subst (λ xs. Behold least xs (collapse least (frame.Left v s place ∷ stack) (worth tree))) same
-        (subst (λ p. Behold least (h.0 ++ written (two s place h.1 tree)) p) same_worth (later high))
+        (subst (λ p. Behold least (h.0 ++ spelled_out (two s place h.1 tree)) p) same_worth (later high))
 
 -- the items that lead to a phase and a stack
 abbrev Spelled : List Item → Phase → List Frame → Type 0
 Spelled xs Due stack = Held xs stack
-Spelled xs (There v) stack = (front : List Item) × (a : Tree) × (xs ≡ front ++ written a) × (v ≡ worth a) × Binds 6 a × Held front stack
+Spelled xs (There v) stack = (front : List Item) × (a : Tree) × (xs ≡ front ++ spelled_out a) × (v ≡ worth a) × Binds 6 a × Held front stack
 Spelled xs Broken stack = Unit {0}
 Spelled xs (Behind place) stack = Unit {0}
 
@@ -125,10 +125,10 @@ close_step place xs (frame.Negate ∷ stack, v) c = tt
 close_step place xs (frame.Invert ∷ stack, v) c = tt
 close_step place xs (frame.Open ∷ stack, v) c =
     let open_place : Place = c.held.1 in
-    let same : xs ++ item what.Close place ∷ [] ≡ c.held.0 ++ written (bracketed open_place c.tree place) =
-    ap (λ ys. ys ++ item what.Close place ∷ []) (c.same ∙ ap (λ ys. ys ++ written c.tree) c.held.2)
-    ∙ (append_assoc (c.held.0 ++ item what.Open open_place ∷ []) (written c.tree) (item what.Close place ∷ [])
-    ∙ append_assoc c.held.0 (item what.Open open_place ∷ []) (written c.tree ++ item what.Close place ∷ [])) in
+    let same : xs ++ item what.Close place ∷ [] ≡ c.held.0 ++ spelled_out (bracketed open_place c.tree place) =
+    ap (λ ys. ys ++ item what.Close place ∷ []) (c.same ∙ ap (λ ys. ys ++ spelled_out c.tree) c.held.2)
+    ∙ (append_assoc (c.held.0 ++ item what.Open open_place ∷ []) (spelled_out c.tree) (item what.Close place ∷ [])
+    ∙ append_assoc c.held.0 (item what.Open open_place ∷ []) (spelled_out c.tree ++ item what.Close place ∷ [])) in
     (c.held.0, bracketed open_place c.tree place, same, c.worth_is, c.binds, c.held.3)
 
 pass_step : (place : Place) (xs : List Item) (p : List Frame × Worth) → SpelledBy xs (passed place p)
@@ -138,13 +138,13 @@ pass_step place xs (f ∷ stack, v) = tt
 -- a sign behind a number
 sign_step : (s : Operator) (place : Place) (xs : List Item) (p : List Frame × Worth) → Behold (level s) xs p → Held (xs ++ item (what.Binary s) place ∷ []) (frame.Left p.1 s place ∷ p.0)
 sign_step s place xs p c =
-    (c.front, c.tree, ap (λ ys. ys ++ item (what.Binary s) place ∷ []) c.same ∙ append_assoc c.front (written c.tree) (item (what.Binary s) place ∷ []), c.worth_is, c.binds, c.loose, c.held)
+    (c.front, c.tree, ap (λ ys. ys ++ item (what.Binary s) place ∷ []) c.same ∙ append_assoc c.front (spelled_out c.tree) (item (what.Binary s) place ∷ []), c.worth_is, c.binds, c.loose, c.held)
 
-there_step : (w : What) (place : Place) (front : List Item) (a : Tree) (stack : List Frame) → Binds 6 a → Held front stack → SpelledBy ((front ++ written a) ++ item w place ∷ []) (read_behind w place stack (worth a))
+there_step : (w : What) (place : Place) (front : List Item) (a : Tree) (stack : List Frame) → Binds 6 a → Held front stack → SpelledBy ((front ++ spelled_out a) ++ item w place ∷ []) (read_behind w place stack (worth a))
 there_step (what.Binary s) place front a stack b h =
-    sign_step s place (front ++ written a) (collapse (level s) stack (worth a)) (collapsed (level s) stack front a 6 (level_small s) (let small = level_small s in omega arith) (omega arith) b (need_small stack) h)
+    sign_step s place (front ++ spelled_out a) (collapse (level s) stack (worth a)) (collapsed (level s) stack front a 6 (level_small s) (let small = level_small s in omega arith) (omega arith) b (need_small stack) h)
 there_step what.Close place front a stack b h =
-    close_step place (front ++ written a) (collapse 0 stack (worth a)) (collapsed 0 stack front a 6 (omega arith) (omega arith) (omega arith) b (need_small stack) h)
+    close_step place (front ++ spelled_out a) (collapse 0 stack (worth a)) (collapsed 0 stack front a 6 (omega arith) (omega arith) (omega arith) b (need_small stack) h)
 there_step (what.Value v) place front a stack b h = pass_step place _ (collapse 0 stack (worth a))
 there_step what.Invert place front a stack b h = pass_step place _ (collapse 0 stack (worth a))
 there_step what.Open place front a stack b h = pass_step place _ (collapse 0 stack (worth a))
@@ -154,7 +154,7 @@ step : (phase : Phase) (stack : List Frame) (xs : List Item) (i : Item) → Spel
 step Due stack xs i h = due_step i.what i.place xs stack h
 step (There v) stack xs i h =
     subst (λ ys. SpelledBy (ys ++ i ∷ []) (read_behind i.what i.place stack v)) (sym h.2)
-    (subst (λ w. SpelledBy ((h.0 ++ written h.1) ++ i ∷ []) (read_behind i.what i.place stack w)) (sym h.3) (there_step i.what i.place h.0 h.1 stack h.4 h.5))
+    (subst (λ w. SpelledBy ((h.0 ++ spelled_out h.1) ++ i ∷ []) (read_behind i.what i.place stack w)) (sym h.3) (there_step i.what i.place h.0 h.1 stack h.4 h.5))
 step Broken stack xs i h = tt
 step (Behind place) stack xs i h = tt
 
@@ -167,7 +167,7 @@ all_steps (y ∷ ys) xs r h =
 -- the end
 at_end : (xs : List Item) (w : Worth) (p : List Frame × Worth) → Behold 0 xs p → ended p ≡ Whole w → IsTreeOf xs w
 at_end xs w ([], v) c e =
-    let same : xs ≡ written c.tree = c.same ∙ ap (λ ys. ys ++ written c.tree) c.held in
+    let same : xs ≡ spelled_out c.tree = c.same ∙ ap (λ ys. ys ++ spelled_out c.tree) c.held in
     let same_worth : v ≡ w = cc in
     record { tree = c.tree; binds = c.binds; written_is = sym same; worth_is = sym c.worth_is ∙ same_worth }
 at_end xs w (f ∷ stack, v) c e = cc
@@ -178,10 +178,10 @@ whole_tree Broken stack xs w h e = cc
 whole_tree (Behind place) stack xs w h e = cc
 whole_tree (There v) stack xs w h e =
     subst (λ ys. IsTreeOf ys w) (sym h.2)
-    (at_end (h.0 ++ written h.1) w (collapse 0 stack (worth h.1)) (collapsed 0 stack h.0 h.1 6 (omega arith) (omega arith) (omega arith) h.4 (need_small stack) h.5)
+    (at_end (h.0 ++ spelled_out h.1) w (collapse 0 stack (worth h.1)) (collapsed 0 stack h.0 h.1 6 (omega arith) (omega arith) (omega arith) h.4 (need_small stack) h.5)
     (ap (λ u. ended (collapse 0 stack u)) (sym h.3) ∙ e))
 
-pub only_trees : (items : List Item) (w : Worth) → outcome_of items ≡ Whole w → IsTreeOf items w
+pub only_trees : (items : List Item) (w : Worth) → parsed_of items ≡ Whole w → IsTreeOf items w
 only_trees items w e =
     let r : Reading = fold stepped (reading [] Due) items in
     whole_tree r.phase r.stack items w (all_steps items [] (reading [] Due) refl) e

@@ -6,7 +6,7 @@ use Rattle.std.proofs.lemmas.List.{take-append-le, take-append-drop, take-map, t
 use Rattle.std.proofs.lemmas.Grind.{flat_map-append}
 use Rattle.qpu_token.specs.declared.token.Token.{Token}
 use Rattle.qpu_expr.specs.LineTokens.{LineTokens}
-use Rattle.qpu_expr.specs.Macros.{placed}
+use Rattle.qpu_expr.specs.Macros.{placed_at}
 use Rattle.qpu_expr.specs.Pieces.{joined}
 
 -- tokens that are put behind the first ones, so many as are missing
@@ -30,8 +30,8 @@ front_full most pieces i full =
     ∙ (ap (λ xs. take most xs) (sym (flat_map-append (λ piece. piece) (take i pieces) (drop i pieces)))
     ∙ ap (λ ps. take most (joined ps)) (take-append-drop i pieces))
 
-pub placed_front : (at : Token) (n : ℕ) (tokens : List Token) → map (placed at) (take n tokens) ≡ take n (map (placed at) tokens)
-placed_front at n tokens = sym (take-map (placed at) n tokens)
+pub placed_front : (at : Token) (n : ℕ) (tokens : List Token) → map (placed_at at) (take n tokens) ≡ take n (map (placed_at at) tokens)
+placed_front at n tokens = sym (take-map (placed_at at) n tokens)
 
 -- fewer tokens than were asked for are all
 all_front : (most : ℕ) (tokens : List Token) → length (take most tokens) < most → take most tokens ≡ tokens

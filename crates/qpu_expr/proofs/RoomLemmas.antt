@@ -14,8 +14,8 @@ use Rattle.qpu_expr.specs.Symbols.{place_of}
 use Rattle.qpu_expr.specs.Deeds.{◌or◌, fault_in, least_fault}
 use Rattle.qpu_expr.specs.LineTokens.{LineTokens}
 use Rattle.qpu_expr.specs.StageParts.{Stage}
-use Rattle.qpu_expr.specs.Stage.{line_place, too_long, counted, labelled}
-use Rattle.qpu_expr.specs.Room.{HasRoom}
+use Rattle.qpu_expr.specs.Stage.{line_place, too_long, tokens_counted, labelled}
+use Rattle.qpu_expr.specs.Room.{HasTokenRoom}
 
 or_none : (a b : Option AsmFault) → option_or a b ≡ None → (a ≡ None) × (b ≡ None)
 or_none None b e = (refl, e)
@@ -47,7 +47,7 @@ none_there [] k e = omega arith
 none_there (token ∷ tokens) zero e = cc
 none_there (token ∷ tokens) (suc k) e = let rest = none_there tokens k e in omega arith
 
-pub some_room : (s : Stage) (line : LineTokens) (word : Bool) → too_long s line word ≡ None → HasRoom s line
+pub some_room : (s : Stage) (line : LineTokens) (word : Bool) → too_long s line word ≡ None → HasTokenRoom s line
 unfolding too_long
 some_room s line word none =
     let first = if_none (nat_le MOST_LINES s.reached) (line_place line) _ none in
@@ -67,6 +67,6 @@ word_room s line none =
     grind (arith, nat_tests, few)
 
 -- a line's count and its label change no count of words
-pub words_same : (text : List ℕ) (label : Option Token) (line : LineTokens) (s : Stage) → (labelled text label (counted line s)).words ≡ s.words
+pub words_same : (text : List ℕ) (label : Option Token) (line : LineTokens) (s : Stage) → (labelled text label (tokens_counted line s)).words ≡ s.words
 words_same text None line s = refl
 words_same text (Some name) line s = refl

@@ -4,18 +4,18 @@ use Rattle.std.proofs.lemmas.List.{take_rest}
 use Rattle.qpu_token.specs.declared.fault.AsmFault.{AsmFault}
 use Rattle.qpu_expr.specs.declared.stop.Stop.{Stop}
 use Rattle.qpu_expr.specs.declared.stop.Stop.TheVariants.{Fault, Memory}
-use Rattle.qpu_expr.specs.Leads.{StopsAt}
+use Rattle.qpu_expr.specs.Leads.{StopsBy}
 use Rattle.qpu_expr.specs.declared.place.Place.{Place}
 use Rattle.qpu_expr.specs.declared.deed.Act.{Act}
 use Rattle.qpu_expr.specs.LineTokens.{LineTokens}
 use Rattle.qpu_expr.specs.StageParts.{Stage}
 use Rattle.qpu_expr.specs.Stage.{turn_counted}
 use Rattle.qpu_expr.specs.Deeds.{line_does}
-use Rattle.qpu_expr.specs.Expansion.{Outcome, then, turns, performed, taken, lines_run, run_within}
+use Rattle.qpu_expr.specs.Expansion.{RunResult, then, turns, performed, taken, lines_run, run_within}
 use Rattle.qpu_expr.specs.Nesting.{is_deepest, below}
 
 -- lines that are done already are passed
-skipped : (text : List ℕ) (run : List LineTokens → Stage → Outcome) (deepest : Bool) (skip : ℕ) (lines : List LineTokens) (s : Stage) → lines_run text run deepest skip lines s ≡ lines_run text run deepest 0 (drop skip lines) s
+skipped : (text : List ℕ) (run : List LineTokens → Stage → RunResult) (deepest : Bool) (skip : ℕ) (lines : List LineTokens) (s : Stage) → lines_run text run deepest skip lines s ≡ lines_run text run deepest 0 (drop skip lines) s
 skipped text run deepest zero lines s = refl
 skipped text run deepest (suc skip) [] s = refl
 skipped text run deepest (suc skip) (line ∷ lines) s = skipped text run deepest skip lines s
@@ -44,7 +44,7 @@ act_stops text depth line behind act s s1 fault does performs =
     ∙ (ap (λ r. then r (λ p. then (performed text (below text depth) p.0 behind p.1) (lines_run text (below text depth) (is_deepest depth) (taken p.0) behind))) does
     ∙ ap (λ r. then r (lines_run text (below text depth) (is_deepest depth) (taken act) behind)) performs)
 
-pub act_stopped : (text : List ℕ) (depth : ℕ) (line : LineTokens) (behind : List LineTokens) (act : Act) (s s1 : Stage) (stop : Stop) → line_does text (is_deepest depth) line behind s ≡ Ok (act, s1) → StopsAt (performed text (below text depth) act behind s1) stop → StopsAt (run_within text depth (line ∷ behind) s) stop
+pub act_stopped : (text : List ℕ) (depth : ℕ) (line : LineTokens) (behind : List LineTokens) (act : Act) (s s1 : Stage) (stop : Stop) → line_does text (is_deepest depth) line behind s ≡ Ok (act, s1) → StopsBy (performed text (below text depth) act behind s1) stop → StopsBy (run_within text depth (line ∷ behind) s) stop
 act_stopped text depth line behind act s s1 (Fault fault) does performs = act_stops text depth line behind act s s1 fault does performs
 act_stopped text depth line behind act s s1 Memory does performs = tt
 
@@ -76,16 +76,16 @@ not_deepest (suc depth) deepest = omega arith
 turns_left : (n k : ℕ) → k < n → n - k ≡ suc (n - (k + 1))
 turns_left n k more = omega arith
 
-pub turn_more : (run : Stage → Outcome) (place : Place) (n k : ℕ) (s s1 s2 : Stage) → k < n → turn_counted place s ≡ Ok s1 → run s1 ≡ Ok s2 → turns run place (n - k) s ≡ turns run place (n - (k + 1)) s2
+pub turn_more : (run : Stage → RunResult) (place : Place) (n k : ℕ) (s s1 s2 : Stage) → k < n → turn_counted place s ≡ Ok s1 → run s1 ≡ Ok s2 → turns run place (n - k) s ≡ turns run place (n - (k + 1)) s2
 turn_more run place n k s s1 s2 more counts runs =
     ap (λ m. turns run place m s) (turns_left n k more)
     ∙ (ap (λ r. then r (λ s. then (run s) (turns run place (n - (k + 1))))) counts ∙ ap (λ r. then r (turns run place (n - (k + 1)))) runs)
 
-pub turn_stops : (run : Stage → Outcome) (place : Place) (n k : ℕ) (s : Stage) (fault : AsmFault) → k < n → turn_counted place s ≡ Err fault → turns run place (n - k) s ≡ Err fault
+pub turn_stops : (run : Stage → RunResult) (place : Place) (n k : ℕ) (s : Stage) (fault : AsmFault) → k < n → turn_counted place s ≡ Err fault → turns run place (n - k) s ≡ Err fault
 turn_stops run place n k s fault more counts =
     ap (λ m. turns run place m s) (turns_left n k more) ∙ ap (λ r. then r (λ s. then (run s) (turns run place (n - (k + 1))))) counts
 
-pub body_stops : (run : Stage → Outcome) (place : Place) (n k : ℕ) (s s1 : Stage) (fault : AsmFault) → k < n → turn_counted place s ≡ Ok s1 → run s1 ≡ Err fault → turns run place (n - k) s ≡ Err fault
+pub body_stops : (run : Stage → RunResult) (place : Place) (n k : ℕ) (s s1 : Stage) (fault : AsmFault) → k < n → turn_counted place s ≡ Ok s1 → run s1 ≡ Err fault → turns run place (n - k) s ≡ Err fault
 body_stops run place n k s s1 fault more counts runs =
     ap (λ m. turns run place m s) (turns_left n k more)
     ∙ (ap (λ r. then r (λ s. then (run s) (turns run place (n - (k + 1))))) counts ∙ ap (λ r. then r (turns run place (n - (k + 1)))) runs)

@@ -19,7 +19,7 @@ use Rattle.qpu_expr.specs.MacroTokens.{MacroTokens}
 use Rattle.qpu_expr.specs.Macros.{Macros}
 use Rattle.qpu_expr.specs.Lines.{label_of, behind_label, head_of}
 use Rattle.qpu_expr.specs.StageParts.{Stage}
-use Rattle.qpu_expr.specs.Stage.{first_stage, counted, turn_counted, labelled, changed}
+use Rattle.qpu_expr.specs.Stage.{first_stage, tokens_counted, turn_counted, labelled, changed}
 use Rattle.qpu_expr.specs.Deeds.{deed_by, done_by, line_does, closing_deed, closes}
 use Rattle.qpu_expr.specs.Ended.{IsEnded}
 use Rattle.qpu_expr.proofs.KeepLemmas.{Runs, Keeps}
@@ -54,7 +54,7 @@ put_ends name m (e ∷ macros) body all = by_name (pointwise nat_eq name e.0) (p
     by_name true more = All-cons BodyEnds (e.0, m) macros body rest
     by_name false more = All-cons BodyEnds e (put_in name m macros) (All-head BodyEnds e macros all) more
 
-label_ends : (text : List ℕ) (label : Option Token) (line : LineTokens) (s : Stage) → StageEnds s → StageEnds (labelled text label (counted line s))
+label_ends : (text : List ℕ) (label : Option Token) (line : LineTokens) (s : Stage) → StageEnds s → StageEnds (labelled text label (tokens_counted line s))
 label_ends text None line s ends = record { lines = ends.lines; macros = ends.macros }
 label_ends text (Some name) line s ends = record { lines = ends.lines; macros = ends.macros }
 
@@ -67,7 +67,7 @@ change_ends text (change.Leaves line) s ends e = record { lines = All-push IsEnd
 done_ends : (text : List ℕ) (line : LineTokens) (d : Deed) (s : Stage) → DeedEnds d → StageEnds s → IfOk (done_by text line d s) (λ p. Runs HasEnd p.0 × StageEnds p.1)
 done_ends text line d s deed ends =
     done_gives (λ p. Runs HasEnd p.0 × StageEnds p.1) text line d s
-    (λ none. (deed.act, change_ends text d.change (labelled text (label_of text line.tokens) (counted line s)) (label_ends text (label_of text line.tokens) line s ends) deed.change))
+    (λ none. (deed.act, change_ends text d.change (labelled text (label_of text line.tokens) (tokens_counted line s)) (label_ends text (label_of text line.tokens) line s ends) deed.change))
 
 line_ends : (text : List ℕ) (deepest : Bool) (line : LineTokens) (behind : List LineTokens) (s : Stage) → HasEnd line → All HasEnd behind → StageEnds s → IfOk (line_does text deepest line behind s) (λ p. Runs HasEnd p.0 × StageEnds p.1)
 unfolding line_does

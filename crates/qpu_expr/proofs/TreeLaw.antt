@@ -11,10 +11,10 @@ use Rattle.qpu_expr.specs.declared.expression.Frame.TheVariants as frame
 use Rattle.qpu_expr.specs.declared.expression.What.TheVariants.{Binary, Close}
 use Rattle.qpu_expr.specs.declared.expression.Item.{Item}
 use Rattle.qpu_expr.specs.declared.expression.Phase.TheVariants.{Due, There}
-use Rattle.qpu_expr.specs.declared.expression.Outcome.TheVariants.{Whole}
+use Rattle.qpu_expr.specs.declared.expression.Parsed.TheVariants.{Whole}
 use Rattle.qpu_expr.specs.Operators.{Worth, level, combined}
-use Rattle.qpu_expr.specs.Expressions.{Reading, reading, taken, collapse, closed, stepped, ended, finished, outcome_of}
-use Rattle.qpu_expr.specs.Trees.{Tree, number, bracketed, minus, not, two, item, written, worth, Binds}
+use Rattle.qpu_expr.specs.Expressions.{Reading, reading, taken, collapse, closed, stepped, ended, finished, parsed_of}
+use Rattle.qpu_expr.specs.Trees.{Tree, number, bracketed, minus, not, two, item, spelled_out, worth, Binds}
 
 -- items read one after another
 abbrev pub run : List Item → Reading → Reading
@@ -59,14 +59,14 @@ goes sign place a v stack m low =
 waits : (sign : Operator) (place : Place) (top stack : List Frame) (last v : Worth) (ys : List Item) → collapse (level sign) top last ≡ (stack, v) → run (item (Binary sign) place ∷ ys) (reading top (There last)) ≡ run ys (reading (frame.Left v sign place ∷ stack) Due)
 waits sign place top stack last v ys e = ap (λ (p : List Frame × Worth). run ys (reading (frame.Left p.1 sign place ∷ p.0) Due)) e
 
-pub reads : (tree : Tree) (least : ℕ) (stack : List Frame) → Binds least tree → Waits least stack → Reads least (written tree) stack (worth tree)
+pub reads : (tree : Tree) (least : ℕ) (stack : List Frame) → Binds least tree → Waits least stack → Reads least (spelled_out tree) stack (worth tree)
 reads (number v place) least stack b w = record { top = stack; last = Ok v; runs = refl; comes = λ k low high. refl }
 reads (bracketed from a to) least stack b w =
     let r = reads a 0 (frame.Open ∷ stack) b (λ m v low high. refl) in
     record {
       top = stack;
       last = worth a;
-      runs = rw (fold-append stepped (reading (frame.Open ∷ stack) Due) (written a) (item Close to ∷ []), r.runs) (ap (closed to) (r.comes 0 (omega arith) (omega arith)));
+      runs = rw (fold-append stepped (reading (frame.Open ∷ stack) Due) (spelled_out a) (item Close to ∷ []), r.runs) (ap (closed to) (r.comes 0 (omega arith) (omega arith)));
       comes = λ k low high. refl;
     }
 reads (minus place a) least stack b w =
@@ -83,11 +83,11 @@ reads (two sign place a b) least stack binds w =
     record {
       top = right.top;
       last = right.last;
-      runs = rw (fold-append stepped (reading stack Due) (written a) (item (Binary sign) place ∷ written b), left.runs) (waits sign place left.top stack left.last (worth a) (written b) emptied ∙ right.runs);
+      runs = rw (fold-append stepped (reading stack Due) (spelled_out a) (item (Binary sign) place ∷ spelled_out b), left.runs) (waits sign place left.top stack left.last (worth a) (spelled_out b) emptied ∙ right.runs);
       comes = λ k low high. right.comes k (omega arith) high ∙ goes sign place (worth a) (worth b) stack k (omega arith);
     }
 
-pub reads_trees : (tree : Tree) → Binds 0 tree → outcome_of (written tree) ≡ Whole (worth tree)
+pub reads_trees : (tree : Tree) → Binds 0 tree → parsed_of (spelled_out tree) ≡ Whole (worth tree)
 reads_trees tree binds =
     let r = reads tree 0 [] binds (λ m v low high. refl) in
     ap finished r.runs ∙ ap ended (r.comes 0 (omega arith) (omega arith))

@@ -6,7 +6,7 @@ use Rattle.qpu_expr.specs.declared.expanded.Expanded.{Expanded}
 use Rattle.qpu_expr.specs.declared.stop.Stop.{Stop}
 use Rattle.qpu_expr.specs.declared.stop.Stop.TheVariants.{Fault, Memory}
 use Rattle.qpu_expr.specs.Expansion.{Left}
-use Rattle.qpu_expr.specs.Leads.{StopsAt}
+use Rattle.qpu_expr.specs.Leads.{StopsBy}
 
 -- want of memory, which is free, and has no place
 abbrev pub no_memory : AsmFault
@@ -26,4 +26,4 @@ IsItsFault due fault = (fault ≡ no_memory) ⊎ (due ≡ Err fault)
 
 abbrev pub Expands : Result Left AsmFault → Result Expanded Stop → Type 0
 Expands due (Ok e) = IsExpanded due e
-Expands due (Err stop) = StopsAt due stop
+Expands due (Err stop) = StopsBy due stop

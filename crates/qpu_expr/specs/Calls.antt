@@ -8,18 +8,18 @@ use Rattle.qpu_expr.specs.declared.deed.Act.TheVariants as act
 use Rattle.qpu_expr.specs.declared.deed.Deed.{Deed}
 use Rattle.qpu_expr.specs.Settings.{Sets}
 use Rattle.qpu_expr.specs.Tables.{found}
-use Rattle.qpu_expr.specs.Operands.{is_name, Worked, instruction}
+use Rattle.qpu_expr.specs.Operands.{is_name, Worked, instruction_work}
 use Rattle.qpu_expr.specs.MacroTokens.{MacroTokens}
 use Rattle.qpu_expr.specs.Macros.{Macros, arguments_of, argument_fault, body_replaced}
 use Rattle.qpu_expr.specs.StageParts.{Stage}
-use Rattle.qpu_expr.specs.Findings.{no_findings, place_in, when}
+use Rattle.qpu_expr.specs.Findings.{no_findings, place_in, place_when}
 
 -- a call
 
 unfoldable pub call_deed : List ℕ → Bool → Token → List Token → MacroTokens → Deed
 call_deed text deepest end line m = record {
   findings = record no_findings {
-    deep = when deepest (place_in end line);
+    deep = place_when deepest (place_in end line);
     shape = option_or (argument_fault text end (drop 1 line)) (if length (arguments_of text (drop 1 line)) == length m.parameters then None else Some (place_in end line));
   };
   change = change.Nothing;
@@ -36,7 +36,7 @@ worked_deed end w = record {
 }
 
 unfoldable pub instruction_deed : List ℕ → Sets → Token → List Token → Deed
-instruction_deed text sets end line = worked_deed end (instruction text sets line)
+instruction_deed text sets end line = worked_deed end (instruction_work text sets line)
 
 -- the macro that a line calls
 abbrev pub called : List ℕ → Macros → List Token → Option MacroTokens

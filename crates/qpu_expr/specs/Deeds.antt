@@ -18,7 +18,7 @@ use Rattle.qpu_expr.specs.Symbols.{place_of, fault_at}
 use Rattle.qpu_expr.specs.LineTokens.{LineTokens}
 use Rattle.qpu_expr.specs.Lines.{label_of, behind_label, head_of, is_colon}
 use Rattle.qpu_expr.specs.StageParts.{Stage}
-use Rattle.qpu_expr.specs.Stage.{too_long, counted, labelled, leaves, changed, label_twice}
+use Rattle.qpu_expr.specs.Stage.{too_long, tokens_counted, labelled, leaves, changed, label_twice}
 use Rattle.qpu_expr.specs.Findings.{no_findings, left_deed}
 use Rattle.qpu_expr.specs.Directives.{set_deed, repeat_deed, macro_deed, stray_deed}
 use Rattle.qpu_expr.specs.Calls.{text_deed}
@@ -63,7 +63,7 @@ done_by text line d s = by_fault (least_fault (label_twice text s.labels (label_
   where
     by_fault : Option AsmFault → Result (Act × Stage) AsmFault
     by_fault (Some fault) = Err fault
-    by_fault None = Ok (d.act, changed text d.change (labelled text (label_of text line.tokens) (counted line s)))
+    by_fault None = Ok (d.act, changed text d.change (labelled text (label_of text line.tokens) (tokens_counted line s)))
 
 unfoldable pub line_does : List ℕ → Bool → LineTokens → List LineTokens → Stage → Result (Act × Stage) AsmFault
 line_does text deepest line behind s =

@@ -19,7 +19,7 @@ use Rattle.qpu_expr.specs.Operands.{is_name}
 use Rattle.qpu_expr.specs.LineTokens.{LineTokens}
 use Rattle.qpu_expr.specs.Lines.{body_length}
 use Rattle.qpu_expr.specs.Macros.{is_comma, names_of, heading_fault, repeated_in, Macros}
-use Rattle.qpu_expr.specs.Findings.{no_findings, place_in, when, left_deed, is_whole, value_in, zero_in, misshapen}
+use Rattle.qpu_expr.specs.Findings.{no_findings, place_in, place_when, left_deed, is_whole, value_in, zero_in, misshapen}
 
 -- `.set`: a name, a `,` and an expression; any other form is left
 
@@ -27,7 +27,7 @@ abbrev pub set_to : Token → List Token → Bool → Token → Place → Expres
 set_to end line twice name first e =
     if is_whole e.outcome
     then record {
-      findings = record { unknown = when e.unknown first; twice = when twice (place_of name); deep = None; zero = zero_in e.outcome; shape = None; range = None };
+      findings = record { unknown = place_when e.unknown first; twice = place_when twice (place_of name); deep = None; zero = zero_in e.outcome; shape = None; range = None };
       change = change.Sets (record { name = name; value = value_in e.outcome });
       act = act.Nothing;
     }
@@ -49,12 +49,12 @@ set_deed text sets end line = by_tokens (drop 2 line)
 abbrev pub repeat_by : Bool → Place → Place → Expression → Option ℕ → Deed
 repeat_by deepest dot first e body = record {
   findings = record {
-    unknown = when (is_whole e.outcome && e.unknown) first;
+    unknown = place_when (is_whole e.outcome && e.unknown) first;
     twice = None;
-    deep = when deepest dot;
+    deep = place_when deepest dot;
     zero = zero_in e.outcome;
-    shape = option_or (when (not_some body) dot) (misshapen first e.outcome);
-    range = when (nat_lt MOST_TURNS (value_in e.outcome)) first;
+    shape = option_or (place_when (not_some body) dot) (misshapen first e.outcome);
+    range = place_when (nat_lt MOST_TURNS (value_in e.outcome)) first;
   };
   change = change.Nothing;
   act = act.Repeats (value_in e.outcome) dot (unwrap_or body 0);
@@ -74,7 +74,7 @@ repeat_deed text sets deepest end line behind =
 abbrev pub names_twice : List ℕ → Macros → List Token → Option Place
 names_twice text macros [] = None
 names_twice text macros (name ∷ parameters) =
-    option_or (when (is_some (found (text_of text name) macros)) (place_of name)) (repeated_in text [] parameters)
+    option_or (place_when (is_some (found (text_of text name) macros)) (place_of name)) (repeated_in text [] parameters)
 
 abbrev pub defined : List Token → List LineTokens → Change
 defined [] body = change.Nothing

@@ -10,8 +10,8 @@ use Rattle.qpu_expr.specs.declared.expression.What.TheVariants.{Value, Binary, I
 use Rattle.qpu_expr.specs.declared.expression.Item.{Item}
 use Rattle.qpu_expr.specs.declared.expression.Phase.{Phase}
 use Rattle.qpu_expr.specs.declared.expression.Phase.TheVariants.{Due, There, Broken, Behind}
-use Rattle.qpu_expr.specs.declared.expression.Outcome.{Outcome}
-use Rattle.qpu_expr.specs.declared.expression.Outcome.TheVariants.{Whole, Cut, Extra}
+use Rattle.qpu_expr.specs.declared.expression.Parsed.{Parsed}
+use Rattle.qpu_expr.specs.declared.expression.Parsed.TheVariants.{Whole, Cut, Extra}
 use Rattle.qpu_expr.specs.Operators.{Worth, level, combined, negated, inverted}
 
 -- what waits, newest first, and what was read last
@@ -68,19 +68,19 @@ stepped r item = by_phase r.phase
     by_phase Broken = r
     by_phase (Behind place) = r
 
-abbrev pub ended : List Frame × Worth → Outcome
+abbrev pub ended : List Frame × Worth → Parsed
 ended ([], v) = Whole v
 ended (f ∷ stack, v) = Cut
 
-abbrev pub finished : Reading → Outcome
+abbrev pub finished : Reading → Parsed
 finished r = by_phase r.phase
   where
-    by_phase : Phase → Outcome
+    by_phase : Phase → Parsed
     by_phase Due = Cut
     by_phase (There v) = ended (collapse 0 r.stack v)
     by_phase Broken = Cut
     by_phase (Behind place) = Extra place
 
 -- items as an expression: its worth, or that it isn't whole, or the place of what stands behind it
-abbrev pub outcome_of : List Item → Outcome
-outcome_of items = finished (fold stepped (reading [] Due) items)
+abbrev pub parsed_of : List Item → Parsed
+parsed_of items = finished (fold stepped (reading [] Due) items)

@@ -2,8 +2,8 @@
 use Rattle.std.specs.Prelude.{ℕ, Bool, true, false, List, [], ◌∷◌, ◌++◌, Option, Some, None, Ok, Err, if◌then◌else◌}
 use Rattle.qpu_token.specs.declared.token.Token.{Token}
 use Rattle.qpu_expr.specs.declared.place.Place.{Place}
-use Rattle.qpu_expr.specs.declared.expression.Outcome.{Outcome}
-use Rattle.qpu_expr.specs.declared.expression.Outcome.TheVariants.{Whole, Cut, Extra}
+use Rattle.qpu_expr.specs.declared.expression.Parsed.{Parsed}
+use Rattle.qpu_expr.specs.declared.expression.Parsed.TheVariants.{Whole, Cut, Extra}
 use Rattle.qpu_expr.specs.declared.state.Change.TheVariants as change
 use Rattle.qpu_expr.specs.declared.deed.Act.TheVariants as act
 use Rattle.qpu_expr.specs.declared.deed.Findings.{Findings}
@@ -18,8 +18,8 @@ abbrev pub place_in : Token → List Token → Place
 place_in end [] = place_of end
 place_in end (token ∷ rest) = place_of token
 
-abbrev pub when : Bool → Place → Option Place
-when holds place = if holds then Some place else None
+abbrev pub place_when : Bool → Place → Option Place
+place_when holds place = if holds then Some place else None
 
 -- a line that is left as it is
 abbrev pub left_deed : Token → List Token → Deed
@@ -27,18 +27,18 @@ left_deed end line = record { findings = no_findings; change = change.Leaves (li
 
 -- what an expression has, where it is whole
 
-abbrev pub is_whole : Outcome → Bool
+abbrev pub is_whole : Parsed → Bool
 is_whole (Whole worth) = true
 is_whole Cut = false
 is_whole (Extra place) = false
 
-abbrev pub value_in : Outcome → ℕ
+abbrev pub value_in : Parsed → ℕ
 value_in (Whole (Ok value)) = value
 value_in (Whole (Err place)) = 0
 value_in Cut = 0
 value_in (Extra place) = 0
 
-abbrev pub zero_in : Outcome → Option Place
+abbrev pub zero_in : Parsed → Option Place
 zero_in (Whole (Ok value)) = None
 zero_in (Whole (Err place)) = Some place
 zero_in Cut = None
@@ -46,7 +46,7 @@ zero_in (Extra place) = None
 
 -- where tokens that are to be an expression are none: at their first, which begins one that can't be
 -- completed, or at what stands behind a whole one
-abbrev pub misshapen : Place → Outcome → Option Place
+abbrev pub misshapen : Place → Parsed → Option Place
 misshapen first (Whole worth) = None
 misshapen first Cut = Some first
 misshapen first (Extra place) = Some place

@@ -101,8 +101,8 @@ abbrev pub argument_for : List ℕ → List Token → List (List Token) → List
 argument_for text parameters arguments name = option_and_then (λ i. slice_get arguments i) (position (is_named text name) parameters)
 
 -- a token at the place of another
-abbrev pub placed : Token → Token → Token
-placed at token = record token { line = at.line; column = at.column }
+abbrev pub placed_at : Token → Token → Token
+placed_at at token = record token { line = at.line; column = at.column }
 
 -- a name that is a parameter's is replaced by the argument's tokens, which take its place
 abbrev pub replaced : List ℕ → List Token → List (List Token) → Token → List Token
@@ -111,7 +111,7 @@ replaced text parameters arguments token =
   where
     by_argument : Option (List Token) → List Token
     by_argument None = token ∷ []
-    by_argument (Some argument) = map (placed token) argument
+    by_argument (Some argument) = map (placed_at token) argument
 
 abbrev pub line_replaced : List ℕ → List Token → List (List Token) → LineTokens → LineTokens
 line_replaced text parameters arguments line = record {

@@ -8,8 +8,8 @@ use Rattle.qpu_expr.specs.declared.place.Place.{Place}
 use Rattle.qpu_expr.specs.declared.symbol.Sign.TheVariants as sign
 use Rattle.qpu_expr.specs.declared.symbol.Symbol.{Symbol}
 use Rattle.qpu_expr.specs.declared.symbol.Symbol.TheVariants as symbol
-use Rattle.qpu_expr.specs.declared.expression.Outcome.{Outcome}
-use Rattle.qpu_expr.specs.declared.expression.Outcome.TheVariants.{Whole, Cut, Extra}
+use Rattle.qpu_expr.specs.declared.expression.Parsed.{Parsed}
+use Rattle.qpu_expr.specs.declared.expression.Parsed.TheVariants.{Whole, Cut, Extra}
 use Rattle.qpu_expr.specs.declared.setting.Expression.{Expression}
 use Rattle.qpu_expr.specs.declared.operand.Operand.{Operand}
 use Rattle.qpu_expr.specs.declared.operand.Between.{Between}
@@ -65,22 +65,22 @@ core text piece = by_end (drop (length piece - 2) piece)
 
 -- what an operand comes to, without its suffix
 
-abbrev pub left : Operand
-left = record { value = None; unknown = None; zero = None }
+abbrev pub operand_left : Operand
+operand_left = record { value = None; unknown = None; zero = None }
 
 -- a number; the fault of a name that isn't set has the place of the first token
-abbrev pub number_of : Token → Expression → Outcome → Operand
+abbrev pub number_of : Token → Expression → Parsed → Operand
 number_of first e (Whole (Ok value)) = record { value = Some value; unknown = if e.unknown then Some (place_of first) else None; zero = None }
 number_of first e (Whole (Err place)) = record { value = Some 0; unknown = if e.unknown then Some (place_of first) else None; zero = Some place }
-number_of first e Cut = left
-number_of first e (Extra place) = left
+number_of first e Cut = operand_left
+number_of first e (Extra place) = operand_left
 
 -- a name alone: a register's is left, also where it is set; so is one that isn't set
 abbrev pub named : Sets → List ℕ → Operand
-named sets name = if is_register name then left else record { value = found name sets; unknown = None; zero = None }
+named sets name = if is_register name then operand_left else record { value = found name sets; unknown = None; zero = None }
 
 abbrev pub operand_of : List ℕ → Sets → List Token → Operand
-operand_of text sets [] = left
+operand_of text sets [] = operand_left
 operand_of text sets (first ∷ []) =
     if is_name text first then named sets (text_of text first)
     else number_of first (expression text sets (first ∷ [])) (expression text sets (first ∷ [])).outcome
@@ -172,5 +172,5 @@ abbrev pub all_worked : List ℕ → Sets → Working → Worked
 all_worked text sets w = put_piece text sets w.standing w.piece w.done
 
 -- the tokens of an instruction, with its numbers worked out
-unfoldable pub instruction : List ℕ → Sets → List Token → Worked
-instruction text sets tokens = all_worked text sets (fold (worked_on text sets) nothing_read tokens)
+unfoldable pub instruction_work : List ℕ → Sets → List Token → Worked
+instruction_work text sets tokens = all_worked text sets (fold (worked_on text sets) nothing_read tokens)

@@ -2,11 +2,11 @@
 use Rattle.std.specs.Prelude.{List, [], ◌∷◌, map, Option, Some, None}
 use Rattle.std.specs.List.{flat_map}
 use Rattle.qpu_token.specs.declared.token.Token.{Token}
-use Rattle.qpu_expr.specs.Macros.{placed}
+use Rattle.qpu_expr.specs.Macros.{placed_at}
 
 abbrev pub shown : Token → Option (List Token) → List Token
 shown token None = token ∷ []
-shown token (Some argument) = map (placed token) argument
+shown token (Some argument) = map (placed_at token) argument
 
 -- the tokens of pieces, one behind another
 abbrev pub joined : List (List Token) → List Token

@@ -11,7 +11,7 @@ use Rattle.qpu_expr.specs.declared.expression.What.TheVariants as what
 use Rattle.qpu_expr.specs.declared.expression.Item.{Item}
 use Rattle.qpu_expr.specs.declared.setting.Expression.{Expression}
 use Rattle.qpu_expr.specs.Symbols.{symbol_of, place_of}
-use Rattle.qpu_expr.specs.Expressions.{outcome_of}
+use Rattle.qpu_expr.specs.Expressions.{parsed_of}
 use Rattle.qpu_expr.specs.Tables.{found}
 
 -- the names that are set, with their numbers
@@ -42,6 +42,6 @@ is_unknown text sets token = by_symbol (symbol_of text token)
 -- tokens as an expression
 unfoldable pub expression : List ℕ → Sets → List Token → Expression
 expression text sets tokens = record {
-  outcome = outcome_of (map (item_of text sets) tokens);
+  outcome = parsed_of (map (item_of text sets) tokens);
   unknown = list_any (is_unknown text sets) tokens;
 }

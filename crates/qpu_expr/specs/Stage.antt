@@ -38,8 +38,8 @@ too_long s line word =
 
 -- changes
 
-abbrev pub counted : LineTokens → Stage → Stage
-counted line s = record s { reached = s.reached + 1; tokens = s.tokens + length line.tokens }
+abbrev pub tokens_counted : LineTokens → Stage → Stage
+tokens_counted line s = record s { reached = s.reached + 1; tokens = s.tokens + length line.tokens }
 
 -- a turn of a repeat counts as a line without tokens
 abbrev pub turn_counted : Place → Stage → Result Stage AsmFault

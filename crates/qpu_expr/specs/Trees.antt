@@ -7,9 +7,9 @@ use Rattle.qpu_expr.specs.declared.operator.Operator.TheVariants as sign
 use Rattle.qpu_expr.specs.declared.expression.What.{What}
 use Rattle.qpu_expr.specs.declared.expression.What.TheVariants.{Value, Binary, Invert, Open, Close}
 use Rattle.qpu_expr.specs.declared.expression.Item.{Item}
-use Rattle.qpu_expr.specs.declared.expression.Outcome.TheVariants.{Whole}
+use Rattle.qpu_expr.specs.declared.expression.Parsed.TheVariants.{Whole}
 use Rattle.qpu_expr.specs.Operators.{Worth, level, combined, negated, inverted}
-use Rattle.qpu_expr.specs.Expressions.{outcome_of}
+use Rattle.qpu_expr.specs.Expressions.{parsed_of}
 
 -- each item has its place
 pub data Tree : Type 0 where
@@ -23,12 +23,12 @@ abbrev pub item : What → Place → Item
 item what place = record { what = what; place = place }
 
 -- the items of a tree
-abbrev pub written : Tree → List Item
-written (number v place) = item (Value v) place ∷ []
-written (bracketed from a to) = item Open from ∷ (written a ++ item Close to ∷ [])
-written (minus place a) = item (Binary sign.Minus) place ∷ written a
-written (not place a) = item Invert place ∷ written a
-written (two sign place a b) = written a ++ (item (Binary sign) place ∷ written b)
+abbrev pub spelled_out : Tree → List Item
+spelled_out (number v place) = item (Value v) place ∷ []
+spelled_out (bracketed from a to) = item Open from ∷ (spelled_out a ++ item Close to ∷ [])
+spelled_out (minus place a) = item (Binary sign.Minus) place ∷ spelled_out a
+spelled_out (not place a) = item Invert place ∷ spelled_out a
+spelled_out (two sign place a b) = spelled_out a ++ (item (Binary sign) place ∷ spelled_out b)
 
 abbrev pub worth : Tree → Worth
 worth (number v place) = Ok v
@@ -52,15 +52,15 @@ Binds least (two sign place a b) = (least ≤ level sign) × Binds (level sign) 
 
 -- the items of a tree are an expression with its worth
 abbrev pub ReadsTrees : Type 0
-ReadsTrees = (tree : Tree) → Binds 0 tree → outcome_of (written tree) ≡ Whole (worth tree)
+ReadsTrees = (tree : Tree) → Binds 0 tree → parsed_of (spelled_out tree) ≡ Whole (worth tree)
 
 -- some tree that needs no bracket writes items, and has a worth
 pub record IsTreeOf (items : List Item) (w : Worth) : Type 0 where
   pub tree : Tree
   pub binds : Binds 0 tree
-  pub written_is : written tree ≡ items
+  pub written_is : spelled_out tree ≡ items
   pub worth_is : worth tree ≡ w
 
 -- what is read as an expression is what some tree writes, with its worth
 abbrev pub ReadsOnlyTrees : Type 0
-ReadsOnlyTrees = (items : List Item) (w : Worth) → outcome_of items ≡ Whole w → IsTreeOf items w
+ReadsOnlyTrees = (items : List Item) (w : Worth) → parsed_of items ≡ Whole w → IsTreeOf items w

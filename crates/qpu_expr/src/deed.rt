@@ -1,6 +1,6 @@
 //! What one line does by itself.
 ghost use Rattle.std.specs.Prelude.{◌≡◌, ◌++◌, ◌∷◌, [], drop, IfOk};
-ghost use Rattle.qpu_expr.specs.Findings.{place_in, when, left_deed};
+ghost use Rattle.qpu_expr.specs.Findings.{place_in, place_when, left_deed};
 ghost use Rattle.qpu_expr.specs.Directives.{stray_deed};
 
 use crate::expanded::PlainLine;
@@ -100,7 +100,7 @@ pub(crate) fn place_in(end: Token, tokens: &[Token]) -> Place
 
 /// A place, where something holds.
 pub(crate) fn when(holds: bool, place: Place) -> Option<Place>
-    ensures { result ≡ when holds place }
+    ensures { result ≡ place_when holds place }
 {
     if holds { Some(place) } else { None }
 }

@@ -4,7 +4,7 @@ ghost use Rattle.qpu_expr.specs.Findings.{is_whole, value_in, zero_in, misshapen
 ghost use Rattle.qpu_expr.specs.Directives.{set_to, set_deed, repeat_by, repeat_deed, names_twice, defined, macro_by, macro_deed};
 
 use crate::deed::{Act, Deed, Findings, NO_FINDINGS, behind_word, left_deed, place_in, when};
-use crate::expression::Outcome;
+use crate::expression::Parsed;
 use crate::limits::MOST_TURNS;
 use crate::line::{BodyLine, Pair, body_length};
 use crate::macros::{Macro, is_comma, names_of, repeated};
@@ -17,12 +17,12 @@ use crate::table::Table;
 use qpu_token::Token;
 use std::alloc::{AllocError, Global};
 
-impl Outcome {
+impl Parsed {
     /// Whether it is an expression.
     fn is_whole(self) -> bool
         ensures { result ≡ is_whole self }
     {
-        matches!(self, Outcome::Whole(_))
+        matches!(self, Parsed::Whole(_))
     }
 
     /// The number of an expression without a fault.
@@ -30,8 +30,8 @@ impl Outcome {
         ensures { result ≡ value_in self }
     {
         match self {
-            Outcome::Whole(Ok(value)) => value,
-            Outcome::Whole(Err(_)) | Outcome::Cut | Outcome::Extra(_) => 0,
+            Parsed::Whole(Ok(value)) => value,
+            Parsed::Whole(Err(_)) | Parsed::Cut | Parsed::Extra(_) => 0,
         }
     }
 
@@ -40,8 +40,8 @@ impl Outcome {
         ensures { result ≡ zero_in self }
     {
         match self {
-            Outcome::Whole(Err(place)) => Some(place),
-            Outcome::Whole(Ok(_)) | Outcome::Cut | Outcome::Extra(_) => None,
+            Parsed::Whole(Err(place)) => Some(place),
+            Parsed::Whole(Ok(_)) | Parsed::Cut | Parsed::Extra(_) => None,
         }
     }
 
@@ -50,9 +50,9 @@ impl Outcome {
         ensures { result ≡ misshapen first self }
     {
         match self {
-            Outcome::Whole(_) => None,
-            Outcome::Cut => Some(first),
-            Outcome::Extra(place) => Some(place),
+            Parsed::Whole(_) => None,
+            Parsed::Cut => Some(first),
+            Parsed::Extra(place) => Some(place),
         }
     }
 }

@@ -70,7 +70,7 @@ pub(crate) enum Phase {
 
 /// What items come to as an expression.
 #[derive(Clone, Copy)]
-pub(crate) enum Outcome {
+pub(crate) enum Parsed {
     /// An expression with its worth.
     Whole(Worth),
     /// No expression, nor one with more behind it.
@@ -244,18 +244,18 @@ impl Reader {
     }
 
     /// What the items come to.
-    pub(crate) fn finish(&mut self) -> Outcome
+    pub(crate) fn finish(&mut self) -> Parsed
         ensures { result ≡ finished self.old }
     {
         match self.phase {
-            Phase::Due | Phase::Broken => Outcome::Cut,
-            Phase::Behind(place) => Outcome::Extra(place),
+            Phase::Due | Phase::Broken => Parsed::Cut,
+            Phase::Behind(place) => Parsed::Extra(place),
             Phase::There(worth) => {
                 let worth = collapse(&mut self.stack, 0, worth);
                 if self.stack.is_empty() {
-                    Outcome::Whole(worth)
+                    Parsed::Whole(worth)
                 } else {
-                    Outcome::Cut
+                    Parsed::Cut
                 }
             }
         }

@@ -4,10 +4,10 @@ ghost use Rattle.qpu_token.specs.declared.fault.AsmFault.{AsmFault};
 ghost use Rattle.qpu_expr.specs.declared.limits.TheConstants.{MOST_TOKENS};
 ghost use Rattle.qpu_expr.specs.declared.stop.Stop.TheVariants.{Fault};
 ghost use Rattle.qpu_expr.specs.LineTokens.{LineTokens};
-ghost use Rattle.qpu_expr.specs.Findings.{no_findings, when, place_in};
+ghost use Rattle.qpu_expr.specs.Findings.{no_findings, place_when, place_in};
 ghost use Rattle.qpu_expr.specs.Calls.{called};
 ghost use Rattle.qpu_expr.specs.Stage.{too_long, label_twice};
-ghost use Rattle.qpu_expr.specs.Leads.{Led, StopsAt};
+ghost use Rattle.qpu_expr.specs.Leads.{Led, StopsBy};
 ghost use Rattle.qpu_expr.specs.Lines.{behind_label, head_of, label_of};
 ghost use Rattle.qpu_expr.specs.Deeds.{left_tokens, deed_by, fault_in, least_fault, done_by, line_does, closing_deed, closes};
 
@@ -139,14 +139,14 @@ fn calls(text: &[u8], state: &State, line: &[Token]) -> bool
 
 /// The place of a call that is nested too deep.
 fn call_deep(deepest: bool, end: Token, line: &[Token]) -> Option<Place>
-    ensures { result ≡ when deepest (place_in end line.now) }
+    ensures { result ≡ place_when deepest (place_in end line.now) }
 {
     when(deepest, place_in(end, line))
 }
 
 /// Why a line with more tokens than are held stops the expansion, where the first of them tell it.
 fn long_line(text: &[u8], state: &State, deepest: bool, first: &Line) -> Stop
-    ensures { (line : LineTokens) (behind : List LineTokens) (n : ℕ) → first.now ≡ record { tokens = take n line.tokens; end = line.end } → MOST_TOKENS < n → MOST_TOKENS < length line.tokens → StopsAt (line_does text.now deepest line behind state.now) result }
+    ensures { (line : LineTokens) (behind : List LineTokens) (n : ℕ) → first.now ≡ record { tokens = take n line.tokens; end = line.end } → MOST_TOKENS < n → MOST_TOKENS < length line.tokens → StopsBy (line_does text.now deepest line behind state.now) result }
 {
     let tokens = behind_label(text, &first.tokens);
     match head_of(text, tokens) {

@@ -1,8 +1,8 @@
 //! The operands of one instruction's parts.
 ghost use Rattle.std.specs.Prelude.{◌≡◌, ◌≤◌, ◌∷◌, ◌&&◌, [], length, IfOk, OnOk};
-ghost use Rattle.qpu_expr.specs.Operands.{is_name, is_dot, separates, begins_with_name, suffixes, core, number_of, named, operand_of, number_token, with_value, Worked, nothing_worked, put_tokens, noted, put_operand, put_first, put_piece, standing_behind, Working, nothing_read, turned, worked_on, all_worked, instruction};
+ghost use Rattle.qpu_expr.specs.Operands.{is_name, is_dot, separates, begins_with_name, suffixes, core, number_of, named, operand_of, number_token, with_value, Worked, nothing_worked, put_tokens, noted, put_operand, put_first, put_piece, standing_behind, Working, nothing_read, turned, worked_on, all_worked, instruction_work};
 
-use crate::expression::Outcome;
+use crate::expression::Parsed;
 use crate::place::{Place, place_of};
 use crate::register::is_register;
 use crate::setting::{Expression, read_expression, set_value};
@@ -132,17 +132,17 @@ fn number_of(first: Token, e: Expression) -> Operand
         None
     };
     match e.outcome {
-        Outcome::Whole(Ok(value)) => Operand {
+        Parsed::Whole(Ok(value)) => Operand {
             value: Some(value),
             unknown,
             zero: None,
         },
-        Outcome::Whole(Err(place)) => Operand {
+        Parsed::Whole(Err(place)) => Operand {
             value: Some(0),
             unknown,
             zero: Some(place),
         },
-        Outcome::Cut | Outcome::Extra(_) => LEFT,
+        Parsed::Cut | Parsed::Extra(_) => LEFT,
     }
 }
 
@@ -415,14 +415,14 @@ impl Worker {
 }
 
 /// The tokens of an instruction with its numbers worked out, and its leftmost faults.
-#[tactic(auto, unfolding(crate::specs::Operands::instruction), using(std::proofs::lemmas::List::Sums::fold_more))]
+#[tactic(auto, unfolding(crate::specs::Operands::instruction_work), using(std::proofs::lemmas::List::Sums::fold_more))]
 pub(crate) fn instruction(
     alloc: Global,
     text: &[u8],
     sets: &Table<u32>,
     tokens: &[Token],
 ) -> Result<Work, AllocError>
-    ensures { IfOk result (λ work. work ≡ instruction text.now sets.now tokens.now) }
+    ensures { IfOk result (λ work. work ≡ instruction_work text.now sets.now tokens.now) }
 {
     let mut worker = Worker::new(alloc);
     for token in tokens {

@@ -1,7 +1,7 @@
 //! Pieces of lines: tokens, and arguments in the place of tokens.
 ghost use Rattle.std.specs.Prelude.{◌≡◌, ◌++◌, ◌∷◌, ◌-◌, ◌<◌, [], length, get_or, map, take, IfOk, OnOk};
 ghost use Rattle.qpu_token.specs.declared.token.Token.{Token};
-ghost use Rattle.qpu_expr.specs.Macros.{placed};
+ghost use Rattle.qpu_expr.specs.Macros.{placed_at};
 ghost use Rattle.qpu_expr.specs.Pieces.{joined};
 
 use qpu_token::Token;
@@ -68,7 +68,7 @@ impl Model for Piece {
 
 /// A token at the place of another.
 pub(crate) fn placed(at: Token, token: Token) -> Token
-    ensures { result ≡ placed at token }
+    ensures { result ≡ placed_at at token }
 {
     Token {
         line: at.line,
@@ -79,7 +79,7 @@ pub(crate) fn placed(at: Token, token: Token) -> Token
 
 /// Puts tokens at the place of another.
 fn put_placed(at: Token, tokens: &[Token], out: &mut Vec<Token>) -> Result<(), AllocError>
-    ensures { OnOk result (out.new.items ≡ out.old.items ++ map (placed at) tokens.now) }
+    ensures { OnOk result (out.new.items ≡ out.old.items ++ map (placed_at at) tokens.now) }
 {
     for token in tokens {
         out.push(placed(at, *token))?;
@@ -107,7 +107,7 @@ impl Piece {
 
     /// An argument in the place of a token.
     pub(crate) fn of_argument(at: Token, argument: &Argument) -> Result<Piece, AllocError>
-        ensures { IfOk result (λ piece. piece ≡ map (placed at) argument.now) }
+        ensures { IfOk result (λ piece. piece ≡ map (placed_at at) argument.now) }
     {
         let argument = argument.share()?;
         Ok(Piece {

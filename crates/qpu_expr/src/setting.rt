@@ -1,11 +1,11 @@
 //! Names that are set, and expressions over them.
 ghost use Rattle.std.specs.Prelude.{◌≡◌, IfOk, map};
 ghost use Rattle.std.specs.List.{list_any};
-ghost use Rattle.qpu_expr.specs.Expressions.{outcome_of};
+ghost use Rattle.qpu_expr.specs.Expressions.{parsed_of};
 ghost use Rattle.qpu_expr.specs.Tables.{found};
 ghost use Rattle.qpu_expr.specs.Settings.{what_is, item_of, is_unknown, expression};
 
-use crate::expression::{Item, Outcome, Reader, What};
+use crate::expression::{Item, Parsed, Reader, What};
 use crate::place::place_of;
 use crate::symbol::{Sign, Symbol, symbol_of, text_of};
 use crate::table::Table;
@@ -25,7 +25,7 @@ pub(crate) struct Setting {
 #[derive(Clone, Copy)]
 pub(crate) struct Expression {
     /// Their worth, where they are one.
-    pub(crate) outcome: Outcome,
+    pub(crate) outcome: Parsed,
     /// Whether a name among them isn't set.
     pub(crate) unknown: bool,
 }
@@ -88,8 +88,8 @@ fn outcome_of(
     text: &[u8],
     sets: &Table<u32>,
     tokens: &[Token],
-) -> Result<Outcome, AllocError>
-    ensures { IfOk result (λ outcome. outcome ≡ outcome_of (map (item_of text.now sets.now) tokens.now)) }
+) -> Result<Parsed, AllocError>
+    ensures { IfOk result (λ outcome. outcome ≡ parsed_of (map (item_of text.now sets.now) tokens.now)) }
 {
     let mut reader = Reader::new(alloc);
     for token in tokens {

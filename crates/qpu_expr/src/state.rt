@@ -3,8 +3,8 @@ ghost use Rattle.std.specs.Prelude.{◌≡◌, ◌<◌, ◌-◌, OnOk, IfOk, map
 ghost use Rattle.qpu_token.specs.declared.fault.AsmKind.TheVariants.{TooLong};
 ghost use Rattle.qpu_expr.specs.declared.place.Place.{Place};
 ghost use Rattle.qpu_expr.specs.Symbols.{place_of, fault_at};
-ghost use Rattle.qpu_expr.specs.Stage.{first_stage, line_place, too_long, counted, turn_counted, labelled, leaves, changed, label_twice};
-ghost use Rattle.qpu_expr.specs.Room.{HasRoom};
+ghost use Rattle.qpu_expr.specs.Stage.{first_stage, line_place, too_long, tokens_counted, turn_counted, labelled, leaves, changed, label_twice};
+ghost use Rattle.qpu_expr.specs.Room.{HasTokenRoom};
 
 use crate::expanded::{Expanded, LabelAt, PlainLine};
 use crate::limits::{MOST_LINES, MOST_TOKENS, MOST_WORDS};
@@ -144,8 +144,8 @@ impl State {
 
     /// Counts a line that passes no limit.
     pub(crate) fn count(&mut self, line: &Line)
-        requires { HasRoom self.old line.now }
-        ensures { self.new ≡ counted line.now self.old }
+        requires { HasTokenRoom self.old line.now }
+        ensures { self.new ≡ tokens_counted line.now self.old }
     {
         self.reached += 1;
         self.tokens += line.tokens.len();

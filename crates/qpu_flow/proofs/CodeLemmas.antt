@@ -5,9 +5,9 @@ use Rattle.std.specs.List.{range_with_len}
 use Rattle.std.proofs.lemmas.List.{get_or-map, length-map}
 use Rattle.std.proofs.lemmas.Bool.Decides.{nat_tests}
 use Rattle.qpu_word.specs.declared.word.Word.{Word}
-use Rattle.qpu_word.specs.Words.{writes_link}
+use Rattle.qpu_word.specs.Words.{writes_link, numbers_of}
 use Rattle.qpu_word.specs.Instruction.{is_link_point}
-use Rattle.qpu_flow.specs.Code.{numbers_of, fields_at}
+use Rattle.qpu_flow.specs.Code.{fields_at}
 use Rattle.qpu_flow.specs.Control.{link_points}
 
 pub length_numbers : (words : List Word) → length (numbers_of words) ≡ length words

@@ -1,13 +1,8 @@
 -- A program as the list of its words' numbers, and where it leaves the profile. This project's own.
-use Rattle.std.specs.Prelude.{◌≡◌, ◌<◌, ℕ, List, map, length, Some, slice_index, EachIndex}
-use Rattle.qpu_word.specs.declared.word.Word.{Word}
+use Rattle.std.specs.Prelude.{◌≡◌, ◌<◌, ℕ, List, length, Some, slice_index, EachIndex}
 use Rattle.qpu_word.specs.declared.word.Fields.{Fields}
 use Rattle.qpu_word.specs.declared.fault.WordFault.{WordFault}
 use Rattle.qpu_word.specs.Words.{fields_of, word_fault, IsInProfile}
-
--- the numbers of words
-unfoldable pub numbers_of : List Word → List ℕ
-numbers_of words = map (λ (word : Word). word.0) words
 
 -- the fields of the word at a place, counted in words from 0
 unfoldable pub fields_at : List ℕ → ℕ → Fields

@@ -6,21 +6,21 @@ use Rattle.std.specs.Prelude.{◌≡◌, ◌≤◌, ℕ, ◌+◌, ◌-◌, ◌*�
 use Rattle.std.specs.List.{range_with_len}
 use Rattle.qpu_word.specs.declared.word.Word.{Word}
 use Rattle.qpu_word.specs.declared.word.Fields.{Fields}
-use Rattle.qpu_word.specs.declared.code.TheConstants.{BRANCH_SLOTS, END_SLOTS, WORD_BYTES, PROGRAM_WORDS}
-use Rattle.qpu_word.specs.Words.{is_branch, is_program_end}
+use Rattle.qpu_word.specs.declared.code.TheConstants.{BRANCH_SLOTS, END_SLOTS, INSTRUCTION_BYTES, PROGRAM_WORDS}
+use Rattle.qpu_word.specs.Words.{is_branch, is_program_end, numbers_of}
 use Rattle.qpu_word.specs.Operations.{low32}
 use Rattle.qpu_word.specs.Instruction.{link_of, is_link_point}
-use Rattle.qpu_flow.specs.declared.branch.TheConstants.{BRANCH_ALWAYS}
+use Rattle.qpu_word.specs.declared.code.TheConstants.{BRANCH_ALWAYS}
 use Rattle.qpu_flow.specs.declared.slots.Slots.{Slots}
 use Rattle.qpu_flow.specs.declared.slots.Successors.{Successors}
 use Rattle.qpu_flow.specs.declared.control.Control.{Control}
-use Rattle.qpu_flow.specs.declared.control.Rest.{Rest}
-use Rattle.qpu_flow.specs.declared.control.Rest.TheVariants.{Straight, Ending, To}
+use Rattle.qpu_flow.specs.declared.control.Progress.{Progress}
+use Rattle.qpu_flow.specs.declared.control.Progress.TheVariants.{Straight, Ending, To}
 use Rattle.qpu_flow.specs.declared.control.Target.{Target}
 use Rattle.qpu_flow.specs.declared.control.Target.TheVariants.{Byte, AnyLink as ToAnyLink}
 use Rattle.qpu_flow.specs.declared.control.Next.{Next}
 use Rattle.qpu_flow.specs.declared.control.Next.TheVariants.{At, AnyLink, Ended, Outside}
-use Rattle.qpu_flow.specs.Code.{numbers_of, fields_at, AllInProfile}
+use Rattle.qpu_flow.specs.Code.{fields_at, AllInProfile}
 
 -- branches
 
@@ -29,8 +29,8 @@ abbrev pub is_always : Fields → Bool
 is_always f = f.cond_br == BRANCH_ALWAYS
 
 -- a branch that adds a row of file A to its target
-abbrev pub is_register : Fields → Bool
-is_register f = f.reg == 1
+abbrev pub is_register_branch : Fields → Bool
+is_register_branch f = f.reg == 1
 
 -- the target of a branch at a place that adds no row, in bytes
 unfoldable pub plain_target : ℕ → Fields → ℕ
@@ -38,7 +38,7 @@ plain_target at f = low32 (f.immediate + (if f.rel == 1 then link_of at else 0))
 
 -- a byte address at which a word of the program stands
 abbrev pub is_word_byte : List ℕ → ℕ → Bool
-is_word_byte code byte = (byte % WORD_BYTES == 0) && nat_lt (byte / WORD_BYTES) (length code)
+is_word_byte code byte = (byte % INSTRUCTION_BYTES == 0) && nat_lt (byte / INSTRUCTION_BYTES) (length code)
 
 -- the link points of a program, in ascending order
 unfoldable pub link_points : List ℕ → List ℕ
@@ -80,8 +80,8 @@ straight_on at = record { ahead = Some (at + 1); jump = None; any_link = false }
 abbrev pub after_branch : List ℕ → ℕ → ℕ → Successors
 after_branch code branch at = record {
   ahead = (if is_always (fields_at code branch) then None else Some (at + 1));
-  jump = (if is_register (fields_at code branch) then None else Some (plain_target branch (fields_at code branch)));
-  any_link = is_register (fields_at code branch);
+  jump = (if is_register_branch (fields_at code branch) then None else Some (plain_target branch (fields_at code branch)));
+  any_link = is_register_branch (fields_at code branch);
 }
 
 -- what follows the last slot of a branch or program end
@@ -104,7 +104,7 @@ asks_for (Some asked) at = asked == at
 abbrev pub leads_to : List ℕ → Successors → ℕ → Bool
 leads_to code next at =
     nat_lt at (length code)
-    && (asks_for next.ahead at || asks_for next.jump (WORD_BYTES * at) || (next.any_link && is_link_point code at))
+    && (asks_for next.ahead at || asks_for next.jump (INSTRUCTION_BYTES * at) || (next.any_link && is_link_point code at))
 
 -- a place behind the last word
 abbrev pub is_past : List ℕ → Option ℕ → Bool
@@ -123,17 +123,17 @@ leads_out code next = is_past code next.ahead || is_no_word code next.jump
 -- control with its choices made
 
 -- control goes on to a place, where a word stands there
-abbrev pub going : List ℕ → ℕ → Rest → Next
+abbrev pub going : List ℕ → ℕ → Progress → Next
 going code place rest = if nat_lt place (length code) then At (record { place = place; rest = rest }) else Outside
 
 -- control arrives at a target
 abbrev pub arrived : List ℕ → Target → Next
 arrived code ToAnyLink = AnyLink
 arrived code (Byte byte) =
-    if is_word_byte code byte then At (record { place = byte / WORD_BYTES; rest = Straight }) else Outside
+    if is_word_byte code byte then At (record { place = byte / INSTRUCTION_BYTES; rest = Straight }) else Outside
 
 -- control after a word that is no branch and no program end
-abbrev pub gone_on : List ℕ → Rest → ℕ → Next
+abbrev pub gone_on : List ℕ → Progress → ℕ → Next
 gone_on code Straight at = going code (at + 1) Straight
 gone_on code (Ending slots) at = if nat_lt slots 2 then Ended else going code (at + 1) (Ending (slots - 1))
 gone_on code (To slots target) at =
@@ -141,10 +141,10 @@ gone_on code (To slots target) at =
 
 -- where a taken branch at a place goes
 abbrev pub target_from : ℕ → Fields → Target
-target_from at f = if is_register f then ToAnyLink else Byte (plain_target at f)
+target_from at f = if is_register_branch f then ToAnyLink else Byte (plain_target at f)
 
 -- what is in progress after a branch; one that isn't taken goes straight on
-abbrev pub branched : ℕ → Fields → Bool → Rest
+abbrev pub branched : ℕ → Fields → Bool → Progress
 branched at f taken = if is_always f || taken then To BRANCH_SLOTS (target_from at f) else Straight
 
 -- control after the word at its place

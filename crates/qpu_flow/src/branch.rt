@@ -1,13 +1,10 @@
 //! What a branch's fields say of its ways.
 ghost use Rattle.std.specs.Prelude.{◌≡◌, ◌<◌};
-ghost use Rattle.qpu_flow.specs.Control.{is_always, is_register, plain_target, target_from, branched};
+ghost use Rattle.qpu_flow.specs.Control.{is_always, is_register_branch, plain_target, target_from, branched};
 
-use crate::control::{Rest, Target};
+use crate::control::{Progress, Target};
 use qpu_word::Fields;
-use qpu_word::code::{BRANCH_SLOTS, WORD_BYTES};
-
-/// The condition of a branch that is always taken (Guide, "QPU Instruction Encoding").
-pub const BRANCH_ALWAYS: u32 = 15;
+use qpu_word::code::{BRANCH_ALWAYS, BRANCH_SLOTS, INSTRUCTION_BYTES};
 
 /// Whether a branch's condition is always.
 pub(crate) fn is_always(f: &Fields) -> bool
@@ -18,7 +15,7 @@ pub(crate) fn is_always(f: &Fields) -> bool
 
 /// Whether a branch adds a row of file A to its target.
 pub(crate) fn is_register(f: &Fields) -> bool
-    ensures { result ≡ is_register f.now }
+    ensures { result ≡ is_register_branch f.now }
 {
     f.reg == 1
 }
@@ -30,7 +27,7 @@ pub(crate) fn plain_target(at: u32, f: &Fields) -> u32
     ensures { result ≡ plain_target at f.now }
 {
     let base = if f.rel == 1 {
-        WORD_BYTES * (at + 1 + BRANCH_SLOTS)
+        INSTRUCTION_BYTES * (at + 1 + BRANCH_SLOTS)
     } else {
         0
     };
@@ -51,13 +48,13 @@ fn target_from(at: u32, f: &Fields) -> Target
 }
 
 /// What is in progress after a branch.
-pub(crate) fn branched(at: u32, f: &Fields, taken: bool) -> Rest
+pub(crate) fn branched(at: u32, f: &Fields, taken: bool) -> Progress
     requires { at < 4096 }
     ensures { result ≡ branched at f.now taken }
 {
     if is_always(f) || taken {
-        Rest::To(BRANCH_SLOTS, target_from(at, f))
+        Progress::To(BRANCH_SLOTS, target_from(at, f))
     } else {
-        Rest::Straight
+        Progress::Straight
     }
 }

@@ -11,7 +11,7 @@ pub enum Target {
 
 /// What is in progress after a branch or program end.
 #[derive(Clone, Copy, Debug, PartialEq, Eq)]
-pub enum Rest {
+pub enum Progress {
     /// Nothing: the next word follows.
     Straight,
     /// Program end, with so many slots still to execute.
@@ -27,7 +27,7 @@ pub struct Control {
     /// The place of the word that comes next.
     pub place: u32,
     /// What is in progress there.
-    pub rest: Rest,
+    pub rest: Progress,
 }
 
 /// Where control goes after a word.

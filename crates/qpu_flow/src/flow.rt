@@ -3,8 +3,8 @@ ghost use Rattle.std.specs.Prelude.{◌≡◌, ◌<◌, ◌≤◌, length, filte
 ghost use Rattle.std.specs.Option.{SomeIff};
 ghost use Rattle.std.specs.List.{range_with_len};
 ghost use Rattle.qpu_word.specs.Instruction.{is_link_point};
-ghost use Rattle.qpu_word.specs.Words.{word_fault};
-ghost use Rattle.qpu_flow.specs.Code.{numbers_of, fields_at, AllInProfile, IsFirstOutside};
+ghost use Rattle.qpu_word.specs.Words.{word_fault, numbers_of};
+ghost use Rattle.qpu_flow.specs.Code.{fields_at, AllInProfile, IsFirstOutside};
 ghost use Rattle.qpu_flow.specs.Faults.{IsFlowFault};
 ghost use Rattle.qpu_flow.specs.Control.{link_points};
 

@@ -11,8 +11,7 @@ mod flow;
 mod slots;
 mod ways;
 
-pub use branch::BRANCH_ALWAYS;
-pub use control::{Control, Next, Rest, Target};
+pub use control::{Control, Next, Progress, Target};
 pub use flow::{Flow, FlowFault, first_outside};
 pub use slots::{Slots, Successors};
 

@@ -1,4 +1,4 @@
-use crate::{Control, Flow, FlowFault, Next, Rest, Target};
+use crate::{Control, Flow, FlowFault, Next, Progress, Target};
 use qpu_word::{Word, WordFault};
 use std::test::Fail;
 
@@ -31,40 +31,48 @@ fn control_goes_its_ways(rt: HostRuntime) -> Result<(), Fail> {
     let over = Target::Byte(40);
     let table = [
         (
-            at(0, Rest::Straight),
+            at(0, Progress::Straight),
             true,
-            Next::At(at(1, Rest::To(3, over))),
+            Next::At(at(1, Progress::To(3, over))),
         ),
         (
-            at(0, Rest::Straight),
+            at(0, Progress::Straight),
             false,
-            Next::At(at(1, Rest::Straight)),
+            Next::At(at(1, Progress::Straight)),
         ),
         (
-            at(1, Rest::To(3, over)),
+            at(1, Progress::To(3, over)),
             false,
-            Next::At(at(2, Rest::To(2, over))),
+            Next::At(at(2, Progress::To(2, over))),
         ),
         (
-            at(3, Rest::To(1, over)),
+            at(3, Progress::To(1, over)),
             false,
-            Next::At(at(5, Rest::Straight)),
+            Next::At(at(5, Progress::Straight)),
         ),
         (
-            at(4, Rest::Straight),
+            at(4, Progress::Straight),
             false,
-            Next::At(at(5, Rest::To(3, Target::AnyLink))),
+            Next::At(at(5, Progress::To(3, Target::AnyLink))),
         ),
-        (at(7, Rest::To(1, Target::AnyLink)), false, Next::AnyLink),
         (
-            at(8, Rest::Straight),
+            at(7, Progress::To(1, Target::AnyLink)),
+            false,
+            Next::AnyLink,
+        ),
+        (
+            at(8, Progress::Straight),
             true,
-            Next::At(at(9, Rest::Ending(2))),
+            Next::At(at(9, Progress::Ending(2))),
         ),
-        (at(9, Rest::Ending(1)), true, Next::Ended),
-        (at(9, Rest::To(1, Target::Byte(88))), true, Next::Outside),
-        (at(9, Rest::To(1, Target::Byte(4))), true, Next::Outside),
-        (at(10, Rest::Straight), true, Next::Outside),
+        (at(9, Progress::Ending(1)), true, Next::Ended),
+        (
+            at(9, Progress::To(1, Target::Byte(88))),
+            true,
+            Next::Outside,
+        ),
+        (at(9, Progress::To(1, Target::Byte(4))), true, Next::Outside),
+        (at(10, Progress::Straight), true, Next::Outside),
     ];
     for (control, taken, next) in table {
         if control.place < flow.len() {

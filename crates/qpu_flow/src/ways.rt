@@ -4,10 +4,10 @@ ghost use Rattle.std.specs.Option.{SomeIff};
 ghost use Rattle.qpu_flow.specs.Control.{is_word_byte, one_less, slots_after, after_branch, after_last_slot, next_from, is_past, is_no_word, leads_out, going, arrived, gone_on, follow};
 
 use crate::branch::{branched, is_always, is_register, plain_target};
-use crate::control::{Control, Next, Rest, Target};
+use crate::control::{Control, Next, Progress, Target};
 use crate::flow::Flow;
 use crate::slots::{Slots, Successors};
-use qpu_word::code::{BRANCH_SLOTS, END_SLOTS, WORD_BYTES};
+use qpu_word::code::{BRANCH_SLOTS, END_SLOTS, INSTRUCTION_BYTES};
 
 /// One word further in the slots; none one word after the last.
 fn one_less(slots: Option<Slots>) -> Option<Slots>
@@ -29,7 +29,7 @@ impl Flow {
         ensures { SomeIff result (IsTrue (is_word_byte self.now byte)) (byte / 8) }
     {
         if self.is_word_byte(byte) {
-            Some(byte / WORD_BYTES)
+            Some(byte / INSTRUCTION_BYTES)
         } else {
             None
         }
@@ -39,7 +39,7 @@ impl Flow {
     fn is_word_byte(&self, byte: u32) -> bool
         ensures { result ≡ is_word_byte self.now byte }
     {
-        byte % WORD_BYTES == 0 && byte / WORD_BYTES < self.len()
+        byte % INSTRUCTION_BYTES == 0 && byte / INSTRUCTION_BYTES < self.len()
     }
 
     /// The slots in progress after the word at a place, a word of the program, where `slots` were in
@@ -154,7 +154,7 @@ impl Flow {
     }
 
     /// Control at a place, where a word stands there.
-    fn going(&self, place: u32, rest: Rest) -> Next
+    fn going(&self, place: u32, rest: Progress) -> Next
         ensures { result ≡ going self.now place rest }
     {
         if place < self.len() {
@@ -172,8 +172,8 @@ impl Flow {
             Target::AnyLink => Next::AnyLink,
             Target::Byte(byte) => if self.is_word_byte(byte) {
                 Next::At(Control {
-                    place: byte / WORD_BYTES,
-                    rest: Rest::Straight,
+                    place: byte / INSTRUCTION_BYTES,
+                    rest: Progress::Straight,
                 })
             } else {
                 Next::Outside
@@ -182,21 +182,21 @@ impl Flow {
     }
 
     /// Control after a word that is no branch and no program end.
-    fn gone_on(&self, rest: Rest, at: u32) -> Next
+    fn gone_on(&self, rest: Progress, at: u32) -> Next
         requires { at < 4096 }
         ensures { result ≡ gone_on self.now rest at }
     {
         match rest {
-            Rest::Straight => self.going(at + 1, Rest::Straight),
-            Rest::Ending(slots) => if slots < 2 {
+            Progress::Straight => self.going(at + 1, Progress::Straight),
+            Progress::Ending(slots) => if slots < 2 {
                 Next::Ended
             } else {
-                self.going(at + 1, Rest::Ending(slots - 1))
+                self.going(at + 1, Progress::Ending(slots - 1))
             },
-            Rest::To(slots, target) => if slots < 2 {
+            Progress::To(slots, target) => if slots < 2 {
                 self.arrived(target)
             } else {
-                self.going(at + 1, Rest::To(slots - 1, target))
+                self.going(at + 1, Progress::To(slots - 1, target))
             },
         }
     }
@@ -215,7 +215,7 @@ impl Flow {
             return self.going(control.place + 1, branched(control.place, &f, taken));
         }
         if f.is_program_end() {
-            return self.going(control.place + 1, Rest::Ending(END_SLOTS));
+            return self.going(control.place + 1, Progress::Ending(END_SLOTS));
         }
         self.gone_on(control.rest, control.place)
     }

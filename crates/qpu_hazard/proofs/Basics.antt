@@ -4,7 +4,7 @@ use Rattle.std.specs.Prelude.{filter, All, Contains, IfSome, if◌then◌else◌
 use Rattle.std.specs.List.{range_with_len}
 use Rattle.std.proofs.lemmas.List.FromFn.{get_or-range_with_len, length-range_with_len}
 use Rattle.std.proofs.lemmas.List.Elements.{Contains-append_right, All-cons, All-nil}
-use Rattle.qpu_hazard.specs.Rules.{when}
+use Rattle.qpu_hazard.specs.Rules.{break_when}
 
 -- lists that are empty together
 pub left_empty : {A : Type 0} (xs ys : List A) → xs ++ ys ≡ [] → xs ≡ []
@@ -16,7 +16,7 @@ right_empty [] ys e = e
 right_empty (x ∷ xs) ys e = cc
 
 -- no break is no test
-pub when_empty : (test : Bool) (rule before : ℕ) → when test rule before ≡ [] → test ≡ false
+pub when_empty : (test : Bool) (rule before : ℕ) → break_when test rule before ≡ [] → test ≡ false
 when_empty false rule before e = refl
 when_empty true rule before e = cc
 

@@ -7,11 +7,11 @@ use Rattle.qpu_hazard.specs.declared.breaks.Break.{Break}
 use Rattle.qpu_hazard.specs.declared.breaks.Hazard.{Hazard}
 use Rattle.qpu_hazard.specs.declared.trail.Trail.{Trail}
 use Rattle.qpu_hazard.specs.declared.search.Search.{Search}
-use Rattle.qpu_hazard.specs.Rules.{when}
+use Rattle.qpu_hazard.specs.Rules.{break_when}
 use Rattle.qpu_hazard.specs.Paths.{IsPath, IsClean, broken}
-use Rattle.qpu_hazard.specs.Trails.{broken_from, kept}
-use Rattle.qpu_hazard.specs.Refusal.{IsRefusable, IsFirst, NoneRefusable, NotAfter, end_of}
-use Rattle.qpu_hazard.specs.Search.{AtMost, broken_at, Settled, AllSettled, IsClosed}
+use Rattle.qpu_hazard.specs.Trails.{broken_from, kept_trail}
+use Rattle.qpu_hazard.specs.Refusal.{IsRefusable, IsFirst, NoneRefusable, NotAfter, path_end}
+use Rattle.qpu_hazard.specs.Search.{AtMost, hazard_at, Settled, AllSettled, IsClosed}
 use Rattle.qpu_hazard.proofs.KnownLemmas.{there}
 use Rattle.qpu_hazard.proofs.TrailLemmas.{broken_kept, follows_kept, kept_law}
 
@@ -21,24 +21,24 @@ settled_found code s r closed found =
     subst (λ (x : Trail). AllSettled code s x) found.2 (closed.settled found.0 r found.1)
 
 -- a word that follows a path, whose trail was found, is settled
-settled_after : (code t : List ℕ) (s : Search) (a : ℕ) → IsClosed code s → Contains s.seen (kept code t) → IsPath code (a ∷ t) → Settled code s (kept code t) a
+settled_after : (code t : List ℕ) (s : Search) (a : ℕ) → IsClosed code s → Contains s.seen (kept_trail code t) → IsPath code (a ∷ t) → Settled code s (kept_trail code t) a
 settled_after code t s a closed found is_path =
-    settled_found code s (kept code t) closed found a (sym (follows_kept code t a) ∙ is_path.2)
+    settled_found code s (kept_trail code t) closed found a (sym (follows_kept code t a) ∙ is_path.2)
 
 -- each path that breaks nothing was met
-pub met : (code : List ℕ) (s : Search) → IsClosed code s → (t : List ℕ) → IsPath code t → broken code t ≡ [] → Contains s.seen (kept code t)
+pub met : (code : List ℕ) (s : Search) → IsClosed code s → (t : List ℕ) → IsPath code t → broken code t ≡ [] → Contains s.seen (kept_trail code t)
 met code s closed [] is_path none = closed.start
 met code s closed (a ∷ t) is_path none =
-    let before : Contains s.seen (kept code t) = met code s closed t is_path.0 is_path.1 in
-    let now : Settled code s (kept code t) a = settled_after code t s a closed before is_path in
+    let before : Contains s.seen (kept_trail code t) = met code s closed t is_path.0 is_path.1 in
+    let now : Settled code s (kept_trail code t) a = settled_after code t s a closed before is_path in
     subst (λ (x : Trail). Contains s.seen x) (sym (kept_law code t a)) (now.clean (sym (broken_kept code t a) ∙ none))
 
 -- and each break of a path was told
-pub told : (code : List ℕ) (s : Search) → IsClosed code s → (t : List ℕ) (a : ℕ) → IsPath code (a ∷ t) → (b : Break) → Contains (broken code (a ∷ t)) b → AtMost s.best (broken_at a b)
+pub told : (code : List ℕ) (s : Search) → IsClosed code s → (t : List ℕ) (a : ℕ) → IsPath code (a ∷ t) → (b : Break) → Contains (broken code (a ∷ t)) b → AtMost s.best (hazard_at a b)
 told code s closed t a is_path b has =
-    let before : Contains s.seen (kept code t) = met code s closed t is_path.0 is_path.1 in
-    let now : Settled code s (kept code t) a = settled_after code t s a closed before is_path in
-    All-contains (λ (x : Break). AtMost s.best (broken_at a x)) (broken_from code (kept code t) a) b now.least
+    let before : Contains s.seen (kept_trail code t) = met code s closed t is_path.0 is_path.1 in
+    let now : Settled code s (kept_trail code t) a = settled_after code t s a closed before is_path in
+    All-contains (λ (x : Break). AtMost s.best (hazard_at a x)) (broken_from code (kept_trail code t) a) b now.least
     (subst (λ (l : List Break). Contains l b) (broken_kept code t a) has)
 
 nothing_in_empty : {A : Type 0} (xs : List A) (x : A) → xs ≡ [] → Contains xs x → ⊥
@@ -48,10 +48,10 @@ nothing_in_empty xs x none has = omega (arith, ap length none, has.1)
 pub nothing_before : (code : List ℕ) → 0 < length code → broken code [] ≡ []
 unfolding broken
 nothing_before code some =
-    let test : (length code == 0) ≡ false = grind (arith, nat_tests) in ap (λ (b : Bool). when b 10 0) test
+    let test : (length code == 0) ≡ false = grind (arith, nat_tests) in ap (λ (b : Bool). break_when b 10 0) test
 
 -- each refusable hazard is not before the best
-least_of_path : (code : List ℕ) (s : Search) → 0 < length code → IsClosed code s → (h : Hazard) (t : List ℕ) → IsPath code t → end_of t ≡ h.at
+least_of_path : (code : List ℕ) (s : Search) → 0 < length code → IsClosed code s → (h : Hazard) (t : List ℕ) → IsPath code t → path_end t ≡ h.at
     → Contains (broken code t) (record { rule = h.rule; before = h.before }) → AtMost s.best h
 least_of_path code s some closed h [] is_path ends has = absurd (nothing_in_empty _ _ (nothing_before code some) has)
 least_of_path code s some closed h (a ∷ t) is_path ends has =
@@ -78,7 +78,7 @@ none_found code s some closed is = λ h refusable.
 -- where nothing is refusable, no path breaks a rule
 broken_none : (code t : List ℕ) → NoneRefusable code → IsPath code t → (l : List Break) → broken code t ≡ l → broken code t ≡ []
 broken_none code t none is_path [] is = is
-broken_none code t none is_path (b ∷ l) is = absurd (none (broken_at (end_of t) b) (record {
+broken_none code t none is_path (b ∷ l) is = absurd (none (hazard_at (path_end t) b) (record {
   path = t;
   is_path = is_path;
   ends = refl;
@@ -101,9 +101,9 @@ same_when b (suc k, low, is) = absurd (omega arith)
 broken_empty : (code : List ℕ) → length code ≡ 0 → broken code [] ≡ record { rule = 10; before = 0 } ∷ []
 unfolding broken
 broken_empty code none =
-    let test : (length code == 0) ≡ true = grind (arith, nat_tests) in ap (λ (b : Bool). when b 10 0) test
+    let test : (length code == 0) ≡ true = grind (arith, nat_tests) in ap (λ (b : Bool). break_when b 10 0) test
 
-least_of_empty : (code : List ℕ) → length code ≡ 0 → (h : Hazard) (t : List ℕ) → IsPath code t → end_of t ≡ h.at
+least_of_empty : (code : List ℕ) → length code ≡ 0 → (h : Hazard) (t : List ℕ) → IsPath code t → path_end t ≡ h.at
     → Contains (broken code t) (record { rule = h.rule; before = h.before }) → NotAfter (record { at = 0; rule = 10; before = 0 }) h
 least_of_empty code none h [] is_path ends has =
     let same = same_when (record { rule = h.rule; before = h.before }) (subst (λ (l : List Break). Contains l (record { rule = h.rule; before = h.before })) (broken_empty code none) has) in

@@ -5,14 +5,14 @@ use Rattle.std.proofs.lemmas.Bool.{eqb-true}
 use Rattle.std.proofs.lemmas.Bool.Decides.{nat_tests}
 use Rattle.qpu_word.specs.declared.word.Fields.{Fields}
 use Rattle.qpu_word.specs.declared.code.TheConstants.{READ_UNIFORM, WRITE_UNIFORMS_ADDRESS, READ_MUTEX}
-use Rattle.qpu_word.specs.Words.{is_branch, is_program_end, is_tmu_load, is_semaphore, add_writes, mul_writes, reads, reads_a, reads_b, writes}
+use Rattle.qpu_word.specs.Words.{is_branch, is_program_end, is_tmu_load, is_semaphore, add_writes, mul_writes, reads, reads_a, reads_b, writes, one_if}
 use Rattle.qpu_word.specs.Instruction.{is_look_address}
 use Rattle.qpu_flow.specs.declared.slots.Slots.{Slots}
 use Rattle.qpu_flow.specs.Code.{fields_at}
 use Rattle.qpu_hazard.specs.declared.breaks.Break.{Break}
-use Rattle.qpu_hazard.specs.Demands.{one, uniform_conflict, actions, look_place, looks_made, looks_taken, tests_zn, tests_carry, uses_r4}
+use Rattle.qpu_hazard.specs.Demands.{uniform_conflict, actions, look_place, looks_made, looks_taken, tests_zn, tests_carry, uses_r4}
 use Rattle.qpu_hazard.specs.Rules.{in_slot, h4, h8, h9}
-use Rattle.qpu_hazard.specs.Paths.{IsPath, IsClean, follows, last_of, earlier_of, slots_of, loaded_of, flags_of, carry_of, looks_of}
+use Rattle.qpu_hazard.specs.Paths.{IsPath, IsClean, follows, last_of, earlier_of, slots_of, r4_defined, flags_defined, c_defined, outstanding_looks}
 use Rattle.qpu_hazard.specs.Holds.{LooksHold, WordHolds}
 use Rattle.qpu_hazard.proofs.Basics.{or_left, or_right, and_not, when_empty}
 use Rattle.qpu_hazard.proofs.RuleLemmas.{BreaksNothing, few_looks}
@@ -32,10 +32,10 @@ not_above : (n : ℕ) → nat_lt 1 n ≡ false → n ≤ 1
 not_above n test = grind (arith, nat_tests)
 
 first_zero : (a b c d e f : ℕ) → c ≡ 1 → a + b + c + d + e + f ≤ 1 → a ≡ 0
-first_zero a b c d e f one few = omega (arith, one, few)
+first_zero a b c d e f one_if few = omega (arith, one_if, few)
 
 second_zero : (a b c d e f : ℕ) → c ≡ 1 → a + b + c + d + e + f ≤ 1 → b ≡ 0
-second_zero a b c d e f one few = omega (arith, one, few)
+second_zero a b c d e f one_if few = omega (arith, one_if, few)
 
 both_zero : (a b : ℕ) → a ≡ 0 → b ≡ 0 → a + b ≡ 0
 both_zero a b x y = omega (arith, x, y)
@@ -85,13 +85,13 @@ defined_from uses loaded zn flags tests carry none =
 look_is_address : (waddr unit : ℕ) → (waddr == look_place unit) ≡ true → unit < 2 → is_look_address waddr ≡ true
 look_is_address waddr unit is low = grind (arith, nat_tests)
 
-made_by : (writes_it : Bool) (waddr unit : ℕ) → unit < 2 → one (writes_it && is_look_address waddr) ≡ 0 → one (writes_it && (waddr == look_place unit)) ≡ 0
+made_by : (writes_it : Bool) (waddr unit : ℕ) → unit < 2 → one_if (writes_it && is_look_address waddr) ≡ 0 → one_if (writes_it && (waddr == look_place unit)) ≡ 0
 made_by false waddr unit low none = refl
 made_by true waddr unit low none = by_test (waddr == look_place unit) refl
   where
-    by_test : (b : Bool) → (waddr == look_place unit) ≡ b → one b ≡ 0
+    by_test : (b : Bool) → (waddr == look_place unit) ≡ b → one_if b ≡ 0
     by_test false is = refl
-    by_test true is = absurd (one_not_zero _ (ap one (look_is_address waddr unit is low)) none)
+    by_test true is = absurd (one_not_zero _ (ap one_if (look_is_address waddr unit is low)) none)
 
 tmu_either : (f : Fields) (unit : ℕ) → unit < 2 → is_tmu_load f unit ≡ true → (is_tmu_load f 0 || is_tmu_load f 1) ≡ true
 tmu_either f unit low is = grind (arith, nat_tests)
@@ -99,14 +99,14 @@ tmu_either f unit low is = grind (arith, nat_tests)
 pub takes_alone : (f : Fields) (unit : ℕ) → unit < 2 → actions f ≤ 1 → is_tmu_load f unit ≡ true → looks_made f unit ≡ 0
 unfolding actions looks_made
 takes_alone f unit low few takes =
-    let third : one (is_tmu_load f 0 || is_tmu_load f 1) ≡ 1 = ap one (tmu_either f unit low takes) in
-    let add : one (add_writes f && is_look_address f.waddr_add) ≡ 0 =
-    first_zero (one (add_writes f && is_look_address f.waddr_add)) (one (mul_writes f && is_look_address f.waddr_mul)) (one (is_tmu_load f 0 || is_tmu_load f 1))
-    (one (reads_a f READ_MUTEX)) (one (reads_b f READ_MUTEX)) (one (is_semaphore f)) third few in
-    let mul : one (mul_writes f && is_look_address f.waddr_mul) ≡ 0 =
-    second_zero (one (add_writes f && is_look_address f.waddr_add)) (one (mul_writes f && is_look_address f.waddr_mul)) (one (is_tmu_load f 0 || is_tmu_load f 1))
-    (one (reads_a f READ_MUTEX)) (one (reads_b f READ_MUTEX)) (one (is_semaphore f)) third few in
-    both_zero (one (add_writes f && (f.waddr_add == look_place unit))) (one (mul_writes f && (f.waddr_mul == look_place unit)))
+    let third : one_if (is_tmu_load f 0 || is_tmu_load f 1) ≡ 1 = ap one_if (tmu_either f unit low takes) in
+    let add : one_if (add_writes f && is_look_address f.waddr_add) ≡ 0 =
+    first_zero (one_if (add_writes f && is_look_address f.waddr_add)) (one_if (mul_writes f && is_look_address f.waddr_mul)) (one_if (is_tmu_load f 0 || is_tmu_load f 1))
+    (one_if (reads_a f READ_MUTEX)) (one_if (reads_b f READ_MUTEX)) (one_if (is_semaphore f)) third few in
+    let mul : one_if (mul_writes f && is_look_address f.waddr_mul) ≡ 0 =
+    second_zero (one_if (add_writes f && is_look_address f.waddr_add)) (one_if (mul_writes f && is_look_address f.waddr_mul)) (one_if (is_tmu_load f 0 || is_tmu_load f 1))
+    (one_if (reads_a f READ_MUTEX)) (one_if (reads_b f READ_MUTEX)) (one_if (is_semaphore f)) third few in
+    both_zero (one_if (add_writes f && (f.waddr_add == look_place unit))) (one_if (mul_writes f && (f.waddr_mul == look_place unit)))
     (made_by (add_writes f) f.waddr_add unit low add) (made_by (mul_writes f) f.waddr_mul unit low mul)
 
 pub looks_from : (f : Fields) (unit looks : ℕ) → unit < 2 → actions f ≤ 1
@@ -115,7 +115,7 @@ pub looks_from : (f : Fields) (unit looks : ℕ) → unit < 2 → actions f ≤ 
 unfolding looks_taken
 looks_from f unit looks low few held = (
   λ makes. room looks (looks_made f unit) held.0 makes,
-  λ takes. some_left looks (looks_made f unit) (takes_alone f unit low few takes) (subst (λ (b : Bool). one b ≤ looks + looks_made f unit) takes held.1),
+  λ takes. some_left looks (looks_made f unit) (takes_alone f unit low few takes) (subst (λ (b : Bool). one_if b ≤ looks + looks_made f unit) takes held.1),
   held.0,
 )
 
@@ -123,18 +123,18 @@ few_actions : (f : Fields) (at : ℕ) → h8 f at ≡ [] → actions f ≤ 1
 few_actions f at none = not_above (actions f) (when_empty _ 8 at none)
 
 looks_hold : (code t : List ℕ) (a unit : ℕ) → unit < 2 → actions (fields_at code a) ≤ 1
-    → (looks_of code unit t + looks_made (fields_at code a) unit ≤ 4) × (looks_taken (fields_at code a) unit ≤ looks_of code unit t + looks_made (fields_at code a) unit)
+    → (outstanding_looks code unit t + looks_made (fields_at code a) unit ≤ 4) × (looks_taken (fields_at code a) unit ≤ outstanding_looks code unit t + looks_made (fields_at code a) unit)
     → LooksHold code t a unit
 looks_hold code t a unit low few held =
-    let from = looks_from (fields_at code a) unit (looks_of code unit t) low few held in
-    record { room = from.0; one = from.1; most = from.2 }
+    let from = looks_from (fields_at code a) unit (outstanding_looks code unit t) low few held in
+    record { room = from.0; one_if = from.1; most = from.2 }
 
 pub word_holds : (code t : List ℕ) (a : ℕ) → IsClean code → IsPath code t → IsTrue (follows code t a) → WordHolds code t a
 word_holds code t a clean is_path after =
-    let rules : BreaksNothing code (last_of t) (earlier_of t) (slots_of code t) (loaded_of code t) (flags_of code t) (carry_of code t) (looks_of code 0 t) (looks_of code 1 t) a =
+    let rules : BreaksNothing code (last_of t) (earlier_of t) (slots_of code t) (r4_defined code t) (flags_defined code t) (c_defined code t) (outstanding_looks code 0 t) (outstanding_looks code 1 t) a =
     rules_kept code t a (clean (a ∷ t) (is_path, clean t is_path, after)) in
     let few : actions (fields_at code a) ≤ 1 = few_actions (fields_at code a) a rules.rule_8 in
-    let defined = defined_from (uses_r4 (fields_at code a)) (loaded_of code t) (tests_zn (fields_at code a)) (flags_of code t) (tests_carry (fields_at code a)) (carry_of code t) (when_empty _ 12 a rules.rule_12) in
+    let defined = defined_from (uses_r4 (fields_at code a)) (r4_defined code t) (tests_zn (fields_at code a)) (flags_defined code t) (tests_carry (fields_at code a)) (c_defined code t) (when_empty _ 12 a rules.rule_12) in
     record {
       there = there code t a after;
       uniforms = record {
@@ -143,7 +143,7 @@ word_holds code t a clean is_path after =
       };
       slots = slots_from (slots_of code t) (fields_at code a) rules.rule_9;
       defined = record { r4 = defined.0; flags = defined.1; carry = defined.2 };
-      looks_0 = looks_hold code t a 0 (omega arith) few (few_looks 0 (looks_of code 0 t) (fields_at code a) a rules.rule_13_0);
-      looks_1 = looks_hold code t a 1 (omega arith) few (few_looks 1 (looks_of code 1 t) (fields_at code a) a rules.rule_13_1);
+      looks_0 = looks_hold code t a 0 (omega arith) few (few_looks 0 (outstanding_looks code 0 t) (fields_at code a) a rules.rule_13_0);
+      looks_1 = looks_hold code t a 1 (omega arith) few (few_looks 1 (outstanding_looks code 1 t) (fields_at code a) a rules.rule_13_1);
       actions = few;
     }

@@ -10,11 +10,11 @@ use Rattle.qpu_flow.specs.Code.{fields_at}
 use Rattle.qpu_flow.specs.Control.{one_less, slots_after, leads_to}
 use Rattle.qpu_hazard.specs.declared.breaks.Break.{Break}
 use Rattle.qpu_hazard.specs.declared.trail.Trail.{Trail}
-use Rattle.qpu_hazard.specs.Paths.{IsPath, broken, follows, next_of, last_of, earlier_of, slots_of, loaded_of, flags_of, carry_of, looks_of}
-use Rattle.qpu_hazard.specs.Trails.{trail, follows_from, broken_from, remembered, forget, kept, onward}
+use Rattle.qpu_hazard.specs.Paths.{IsPath, broken, follows, next_of, last_of, earlier_of, slots_of, r4_defined, flags_defined, c_defined, outstanding_looks}
+use Rattle.qpu_hazard.specs.Trails.{trail, follows_from, broken_from, remembered, forget, kept_trail, onward}
 use Rattle.qpu_hazard.specs.Refusal.{IsRefusable}
 use Rattle.qpu_hazard.specs.Fitting.{Fits}
-use Rattle.qpu_hazard.specs.Search.{Known, broken_at}
+use Rattle.qpu_hazard.specs.Search.{Known, hazard_at}
 use Rattle.qpu_hazard.proofs.Basics.{and_first, if_some, if_none, then_some}
 use Rattle.qpu_hazard.proofs.RuleLemmas.{BreaksNothing, breaks_nothing, few_after}
 use Rattle.qpu_hazard.proofs.TrailLemmas.{broken_kept, follows_kept, kept_law}
@@ -63,21 +63,21 @@ remembered_there code (Some a) low = then_some (IsThere code) (writes (fields_at
 
 -- the rules of the last word of a path that breaks nothing
 pub rules_kept : (code t : List ℕ) (a : ℕ) → broken code (a ∷ t) ≡ []
-    → BreaksNothing code (last_of t) (earlier_of t) (slots_of code t) (loaded_of code t) (flags_of code t) (carry_of code t) (looks_of code 0 t) (looks_of code 1 t) a
+    → BreaksNothing code (last_of t) (earlier_of t) (slots_of code t) (r4_defined code t) (flags_defined code t) (c_defined code t) (outstanding_looks code 0 t) (outstanding_looks code 1 t) a
 unfolding broken
 rules_kept code t a none =
-    breaks_nothing code (last_of t) (earlier_of t) (slots_of code t) (loaded_of code t) (flags_of code t) (carry_of code t) (looks_of code 0 t) (looks_of code 1 t) a none
+    breaks_nothing code (last_of t) (earlier_of t) (slots_of code t) (r4_defined code t) (flags_defined code t) (c_defined code t) (outstanding_looks code 0 t) (outstanding_looks code 1 t) a none
 
-pub few_0 : (code t : List ℕ) → broken code t ≡ [] → looks_of code 0 t ≤ 4
+pub few_0 : (code t : List ℕ) → broken code t ≡ [] → outstanding_looks code 0 t ≤ 4
 few_0 code [] none = omega arith
-few_0 code (a ∷ t) none = few_after 0 (looks_of code 0 t) (fields_at code a) a (rules_kept code t a none).rule_13_0
+few_0 code (a ∷ t) none = few_after 0 (outstanding_looks code 0 t) (fields_at code a) a (rules_kept code t a none).rule_13_0
 
-pub few_1 : (code t : List ℕ) → broken code t ≡ [] → looks_of code 1 t ≤ 4
+pub few_1 : (code t : List ℕ) → broken code t ≡ [] → outstanding_looks code 1 t ≤ 4
 few_1 code [] none = omega arith
-few_1 code (a ∷ t) none = few_after 1 (looks_of code 1 t) (fields_at code a) a (rules_kept code t a none).rule_13_1
+few_1 code (a ∷ t) none = few_after 1 (outstanding_looks code 1 t) (fields_at code a) a (rules_kept code t a none).rule_13_1
 
-kept_fits : (code t : List ℕ) → IsPath code t → broken code t ≡ [] → Fits code (kept code t)
-unfolding kept forget trail
+kept_fits : (code t : List ℕ) → IsPath code t → broken code t ≡ [] → Fits code (kept_trail code t)
+unfolding kept_trail forget trail
 kept_fits code t is_path clean = record {
   last = last_there code t is_path;
   earlier = remembered_there code (earlier_of t) (earlier_there code t is_path);
@@ -104,7 +104,7 @@ there_known code r a k after = there code k.path a (follows_path code r a k afte
 
 -- what it breaks is refusable
 pub refusable_after : (code : List ℕ) (r : Trail) (a : ℕ) (b : Break) → Known code r → IsTrue (follows_from code r a)
-    → Contains (broken_from code r a) b → IsRefusable code (broken_at a b)
+    → Contains (broken_from code r a) b → IsRefusable code (hazard_at a b)
 refusable_after code r a b k after has = record {
   path = a ∷ k.path;
   is_path = (k.is_path, k.clean, follows_path code r a k after);

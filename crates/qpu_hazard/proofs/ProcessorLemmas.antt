@@ -16,12 +16,12 @@ use Rattle.qpu_word.specs.Operations.{low32}
 use Rattle.qpu_word.specs.Processor.{ProcessorState}
 use Rattle.qpu_word.specs.Instruction.{is_taken, target_of, link_of, branch_fails, rest_later, rest_after, place_later, place_after, halt_later, halt_after, is_link_point}
 use Rattle.qpu_flow.specs.declared.slots.Slots.{Slots}
-use Rattle.qpu_flow.specs.declared.control.Rest.{Rest}
-use Rattle.qpu_flow.specs.declared.control.Rest.TheVariants.{Straight, Ending, To}
+use Rattle.qpu_flow.specs.declared.control.Progress.{Progress}
+use Rattle.qpu_flow.specs.declared.control.Progress.TheVariants.{Straight, Ending, To}
 use Rattle.qpu_flow.specs.declared.control.Target.TheVariants.{Byte, AnyLink as ToAnyLink}
 use Rattle.qpu_flow.specs.declared.control.Next.TheVariants.{At, AnyLink, Ended, Outside}
 use Rattle.qpu_flow.specs.Code.{fields_at}
-use Rattle.qpu_flow.specs.Control.{one_less, is_always, is_register, plain_target, target_from, branched, is_word_byte, going, arrived, gone_on, follow}
+use Rattle.qpu_flow.specs.Control.{one_less, is_always, is_register_branch, plain_target, target_from, branched, is_word_byte, going, arrived, gone_on, follow}
 use Rattle.qpu_hazard.specs.Paths.{IsPath, IsClean, follows, slots_of}
 use Rattle.qpu_hazard.specs.Standing.{RestIs, Stands, Goes, IsTargetOf, ProcessorRestIs, ProcessorStands, ProcessorGoes}
 use Rattle.qpu_hazard.proofs.Basics.{and_second}
@@ -47,7 +47,7 @@ ge_two : (n : ℕ) → nat_lt n 2 ≡ false → 2 ≤ n
 ge_two n test = grind (arith, nat_tests)
 
 -- where control goes on to a place, it stands there
-stands_going : (code t : List ℕ) (place : ℕ) (rest : Rest) → Goes code t (going code place rest) → Stands code t (record { place = place; rest = rest })
+stands_going : (code t : List ℕ) (place : ℕ) (rest : Progress) → Goes code t (going code place rest) → Stands code t (record { place = place; rest = rest })
 stands_going code t place rest goes = by_test (nat_lt place (length code)) goes
   where
     by_test : (b : Bool) → Goes code t (if b then At (record { place = place; rest = rest }) else Outside) → Stands code t (record { place = place; rest = rest })
@@ -69,7 +69,7 @@ always_holds f flags always =
     subst (λ (cond : ℕ). branch_test cond flags ≡ true) (sym is) refl
 
 -- the target of a branch that adds no row
-plain_target_of : (f : Fields) (p : ProcessorState) → is_register f ≡ false → target_of f p ≡ plain_target p.place f
+plain_target_of : (f : Fields) (p : ProcessorState) → is_register_branch f ≡ false → target_of f p ≡ plain_target p.place f
 unfolding target_of plain_target
 plain_target_of f p plain =
     let base : ℕ = f.immediate + (if f.rel == 1 then link_of p.place else 0) in
@@ -80,16 +80,16 @@ plain_target_of f p plain =
     ap low32 sum
 
 -- the target of a taken register branch that doesn't fault
-link_of_target : (code : List ℕ) (f : Fields) (p : ProcessorState) → branch_fails (is_link_point code) f p ≡ false → is_taken f p ≡ true → is_register f ≡ true
+link_of_target : (code : List ℕ) (f : Fields) (p : ProcessorState) → branch_fails (is_link_point code) f p ≡ false → is_taken f p ≡ true → is_register_branch f ≡ true
     → is_link_point code (target_of f p / 8) ≡ true
 unfolding branch_fails
 link_of_target code f p holds taken registers =
     let either : not ((target_of f p % 8 == 0) && is_link_point code (target_of f p / 8)) ≡ false =
-    last_false (is_taken f p) (is_register f) (not ((target_of f p % 8 == 0) && is_link_point code (target_of f p / 8))) holds taken registers in
+    last_false (is_taken f p) (is_register_branch f) (not ((target_of f p % 8 == 0) && is_link_point code (target_of f p / 8))) holds taken registers in
     and_second (target_of f p % 8 == 0) _ (not_false_then ((target_of f p % 8 == 0) && is_link_point code (target_of f p / 8)) either)
 
 -- what a branch leaves in progress
-target_of_branch : (code : List ℕ) (p : ProcessorState) (registers : Bool) → is_register (fields_at code p.place) ≡ registers
+target_of_branch : (code : List ℕ) (p : ProcessorState) (registers : Bool) → is_register_branch (fields_at code p.place) ≡ registers
     → branch_fails (is_link_point code) (fields_at code p.place) p ≡ false → is_taken (fields_at code p.place) p ≡ true
     → IsTargetOf code p.place (target_of (fields_at code p.place) p / 8)
 target_of_branch code p true registers holds taken = inl (registers, link_of_target code (fields_at code p.place) p holds taken registers)
@@ -104,11 +104,11 @@ not_always f p true is branches untaken =
 fits_branch : (code : List ℕ) (p : ProcessorState) (taken : Bool) → is_branch (fields_at code p.place) ≡ true → is_taken (fields_at code p.place) p ≡ taken
     → branch_fails (is_link_point code) (fields_at code p.place) p ≡ false
     → ProcessorRestIs code (Some (record { place = p.place; left = 3 })) (if taken then GoesTo 3 (target_of (fields_at code p.place) p / 8) else RunsOn)
-fits_branch code p true branches taken holds = (refl, omega arith, branches, target_of_branch code p (is_register (fields_at code p.place)) refl holds taken)
+fits_branch code p true branches taken holds = (refl, omega arith, branches, target_of_branch code p (is_register_branch (fields_at code p.place)) refl holds taken)
 fits_branch code p false branches taken holds = inr (branches, not_always (fields_at code p.place) p (is_always (fields_at code p.place)) refl branches taken)
 
 -- the control of a processor
-control_rest : List ℕ → Option Slots → ProcessorRest → Rest
+control_rest : List ℕ → Option Slots → ProcessorRest → Progress
 control_rest code slots RunsOn = Straight
 control_rest code slots (Ends left) = Ending left
 control_rest code None (GoesTo left place) = Straight

@@ -9,14 +9,14 @@ use Rattle.qpu_word.specs.Instruction.{is_link_point}
 use Rattle.qpu_flow.specs.declared.slots.Slots.{Slots}
 use Rattle.qpu_flow.specs.declared.slots.Successors.{Successors}
 use Rattle.qpu_flow.specs.declared.control.Control.{Control}
-use Rattle.qpu_flow.specs.declared.control.Rest.{Rest}
-use Rattle.qpu_flow.specs.declared.control.Rest.TheVariants.{Straight, Ending, To}
+use Rattle.qpu_flow.specs.declared.control.Progress.{Progress}
+use Rattle.qpu_flow.specs.declared.control.Progress.TheVariants.{Straight, Ending, To}
 use Rattle.qpu_flow.specs.declared.control.Target.{Target}
 use Rattle.qpu_flow.specs.declared.control.Target.TheVariants.{Byte, AnyLink as ToAnyLink}
 use Rattle.qpu_flow.specs.declared.control.Next.{Next}
 use Rattle.qpu_flow.specs.declared.control.Next.TheVariants.{At, AnyLink, Ended, Outside}
 use Rattle.qpu_flow.specs.Code.{fields_at}
-use Rattle.qpu_flow.specs.Control.{is_always, is_register, plain_target, target_from, branched, is_word_byte, one_less, slots_after, nowhere, straight_on, after_branch, after_last_slot, next_from, asks_for, leads_to, is_past, is_no_word, leads_out, going, arrived, gone_on, follow}
+use Rattle.qpu_flow.specs.Control.{is_always, is_register_branch, plain_target, target_from, branched, is_word_byte, one_less, slots_after, nowhere, straight_on, after_branch, after_last_slot, next_from, asks_for, leads_to, is_past, is_no_word, leads_out, going, arrived, gone_on, follow}
 use Rattle.qpu_hazard.specs.Paths.{IsPath, IsClean, broken, follows, last_of, slots_of}
 use Rattle.qpu_hazard.specs.Standing.{RestIs, Stands, Goes}
 use Rattle.qpu_hazard.proofs.Basics.{or_left, or_right, or_first, or_second, and_first, and_second, and_both, when_empty}
@@ -74,7 +74,7 @@ whole_bytes : (byte : ℕ) → byte % 8 ≡ 0 → byte ≡ 8 * (byte / 8)
 whole_bytes byte none = omega arith
 
 -- the next word, where it is among the successors and none of them is outside
-ahead_goes : (code : List ℕ) (slots : Option Slots) (a : ℕ) (rest : Rest)
+ahead_goes : (code : List ℕ) (slots : Option Slots) (a : ℕ) (rest : Progress)
     → (next_from code slots (Some a)).ahead ≡ Some (a + 1) → leads_out code (next_from code slots (Some a)) ≡ false
     → RestIs code slots rest → GoesFrom code slots (Some a) (going code (a + 1) rest)
 ahead_goes code slots a rest ahead inside rest_is =
@@ -176,7 +176,7 @@ untaken_ahead code s a some rest = by_count (s.left - 1 == 0)
     by_count false = refl
 
 -- the target of a taken branch
-branch_arrives : (code : List ℕ) (s : Slots) (a : ℕ) (registers : Bool) → is_register (fields_at code s.place) ≡ registers → s.left ≡ 0
+branch_arrives : (code : List ℕ) (s : Slots) (a : ℕ) (registers : Bool) → is_register_branch (fields_at code s.place) ≡ registers → s.left ≡ 0
     → next_from code (Some s) (Some a) ≡ after_branch code s.place a → leads_out code (after_branch code s.place a) ≡ false
     → GoesFrom code (Some s) (Some a) (arrived code (if registers then ToAnyLink else Byte (plain_target s.place (fields_at code s.place))))
 branch_arrives code s a true registers none is inside = λ at point.
@@ -273,7 +273,7 @@ to_less code (Some s) n a target rest inside = by_count (nat_lt n 2) refl
         let is : next_from code (Some (record s { left = s.left - 1 })) (Some a) ≡ after_branch code s.place a =
         next_ended code (record s { left = s.left - 1 }) a none ∙ after_last_branch code s.place a rest.2 in
         subst (λ (x : Target). GoesFrom code (Some (record s { left = s.left - 1 })) (Some a) (arrived code x)) (sym rest.3)
-        (branch_arrives code (record s { left = s.left - 1 }) a (is_register (fields_at code s.place)) refl none is
+        (branch_arrives code (record s { left = s.left - 1 }) a (is_register_branch (fields_at code s.place)) refl none is
         (subst (λ (x : Successors). leads_out code x ≡ false) is stays))
 
     goes : nat_lt n 2 ≡ false → leads_out code (next_from code (Some (record s { left = s.left - 1 })) (Some a)) ≡ false
@@ -294,7 +294,7 @@ to_less code (Some s) n a target rest inside = by_count (nat_lt n 2) refl
         (sym (less_some s some)) (goes test) inside
 
 -- a word that is no branch and no program end
-gone_less : (code : List ℕ) (slots : Option Slots) (a : ℕ) (rest : Rest) → RestIs code slots rest
+gone_less : (code : List ℕ) (slots : Option Slots) (a : ℕ) (rest : Progress) → RestIs code slots rest
     → leads_out code (next_from code (one_less slots) (Some a)) ≡ false → GoesFrom code (one_less slots) (Some a) (gone_on code rest a)
 gone_less code slots a Straight rest inside = straight_less code slots a rest inside
 gone_less code slots a (Ending n) rest inside = ending_less code slots n a rest inside

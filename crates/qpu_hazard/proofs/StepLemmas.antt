@@ -13,12 +13,12 @@ use Rattle.qpu_hazard.specs.declared.breaks.Break.{Break}
 use Rattle.qpu_hazard.specs.declared.breaks.Hazard.{Hazard}
 use Rattle.qpu_hazard.specs.declared.trail.Trail.{Trail}
 use Rattle.qpu_hazard.specs.declared.search.Search.{Search}
-use Rattle.qpu_hazard.specs.Rules.{when}
+use Rattle.qpu_hazard.specs.Rules.{break_when}
 use Rattle.qpu_hazard.specs.Paths.{broken}
-use Rattle.qpu_hazard.specs.Trails.{follows_from, broken_from, trail, forget, kept, onward}
+use Rattle.qpu_hazard.specs.Trails.{follows_from, broken_from, trail, forget, kept_trail, onward}
 use Rattle.qpu_hazard.specs.Fitting.{opening_trail}
 use Rattle.qpu_hazard.specs.Refusal.{IsRefusable}
-use Rattle.qpu_hazard.specs.Search.{AtMost, broken_at, Known, Sound, Settled, AllSettled, SettledBelow, Grows}
+use Rattle.qpu_hazard.specs.Search.{AtMost, hazard_at, Known, IsSoundSearch, Settled, AllSettled, SettledBelow, Grows}
 use Rattle.qpu_hazard.proofs.Basics.{and_first, and_second, and_both, or_cases, or_first, or_second, Contains-filter_range, All-filter_test}
 use Rattle.qpu_hazard.proofs.KnownLemmas.{there_from_leads, refusable_after}
 
@@ -47,7 +47,7 @@ settled_grows code s n r a grows settled = record {
   clean = λ none.
       subst (λ (l : List Trail). Contains l (onward code r a)) (sym grows.seen.1)
       (Contains-append_left s.seen grows.seen.0 (onward code r a) (settled.clean none));
-  least = All-weaker (λ b. AtMost s.best (broken_at a b)) (λ b. AtMost n.best (broken_at a b)) (λ b. grows.best (broken_at a b)) (broken_from code r a) settled.least;
+  least = All-weaker (λ b. AtMost s.best (hazard_at a b)) (λ b. AtMost n.best (hazard_at a b)) (λ b. grows.best (hazard_at a b)) (broken_from code r a) settled.least;
 }
 
 pub all_settled_grows : (code : List ℕ) (s n : Search) (r : Trail) → Grows s n → AllSettled code s r → AllSettled code n r
@@ -99,14 +99,14 @@ is_among_links code a point = Contains-filter_range (is_link_point code) (length
 
 -- the first i of a list of link points were looked at
 pub record LinksSoFar (code : List ℕ) (s n : Search) (r : Trail) (links : List ℕ) (i : ℕ) : Type 0 where
-  pub sound : Sound code n
+  pub sound : IsSoundSearch code n
   pub grows : Grows s n
   pub settled : All (Settled code n r) (take i links)
 
 -- the first i trails were looked at
 pub record IsGoing (code : List ℕ) (s : Search) (i : ℕ) : Type 0 where
-  pub sound : Sound code s
-  pub start : Contains s.seen (kept code [])
+  pub sound : IsSoundSearch code s
+  pub start : Contains s.seen (kept_trail code [])
   pub settled : SettledBelow code s i
   pub below : i ≤ length s.seen
 
@@ -114,7 +114,7 @@ pub record IsGoing (code : List ℕ) (s : Search) (i : ℕ) : Type 0 where
 
 pub best_after : (code : List ℕ) (old new : Option Hazard) (r : Trail) (a : ℕ) (breaks : List Break) → Known code r → IsTrue (follows_from code r a)
     → breaks ≡ broken_from code r a → IfSome old (IsRefusable code)
-    → (new ≡ old) ⊎ ((b : Break) × Contains breaks b × (new ≡ Some (broken_at a b))) → IfSome new (IsRefusable code)
+    → (new ≡ old) ⊎ ((b : Break) × Contains breaks b × (new ≡ Some (hazard_at a b))) → IfSome new (IsRefusable code)
 best_after code old new r a breaks known after are refusable (inl same) =
     subst (λ (b : Option Hazard). IfSome b (IsRefusable code)) (sym same) refusable
 best_after code old new r a breaks known after are refusable (inr told) =
@@ -149,7 +149,7 @@ link_follows code links r i are low any =
     by_link code r (get_or links i 0) any point (link_there code (get_or links i 0) point)
 
 pub links_more : (code links : List ℕ) (s n m : Search) (r : Trail) (i : ℕ) → i < length links
-    → Sound code m → Grows n m → Settled code m r (get_or links i 0) → LinksSoFar code s n r links i → LinksSoFar code s m r links (i + 1)
+    → IsSoundSearch code m → Grows n m → Settled code m r (get_or links i 0) → LinksSoFar code s n r links i → LinksSoFar code s m r links (i + 1)
 links_more code links s n m r i low sound grows settled before = record {
   sound = sound;
   grows = grows_more s n m before.grows grows;
@@ -198,21 +198,21 @@ with_links code l m n r next are first second ahead jump links a after =
 -- the loop over all trails
 
 pub opens_known : (code : List ℕ) → 0 < length code → Known code opening_trail
-unfolding kept forget trail broken
+unfolding kept_trail forget trail broken
 opens_known code some =
     let test : (length code == 0) ≡ false = grind (arith, nat_tests) in
     record {
       path = [];
       is_path = tt;
-      clean = ap (λ (b : Bool). when b 10 0) test;
+      clean = ap (λ (b : Bool). break_when b 10 0) test;
       is_kept = refl;
     }
 
-pub opening_kept : (code : List ℕ) → opening_trail ≡ kept code []
-unfolding kept forget trail
+pub opening_kept : (code : List ℕ) → opening_trail ≡ kept_trail code []
+unfolding kept_trail forget trail
 opening_kept code = refl
 
-pub going_first : (code : List ℕ) (s : Search) → Contains s.seen (kept code []) → Sound code s → IsGoing code s 0
+pub going_first : (code : List ℕ) (s : Search) → Contains s.seen (kept_trail code []) → IsSoundSearch code s → IsGoing code s 0
 going_first code s start sound = record {
   sound = sound;
   start = start;
@@ -235,10 +235,10 @@ settled_one_more code s n i r low is grows before now k d below a =
         (is d ∙ ap (λ (j : ℕ). slice_index_or s.seen j d) (sym here)) (now a)
 
 pub going_on : (code : List ℕ) (s n : Search) (i : ℕ) (r : Trail) → i < length s.seen → ((d : Trail) → r ≡ slice_index_or s.seen i d)
-    → Sound code n → Grows s n → AllSettled code n r → IsGoing code s i → IsGoing code n (i + 1)
+    → IsSoundSearch code n → Grows s n → AllSettled code n r → IsGoing code s i → IsGoing code n (i + 1)
 going_on code s n i r low is sound grows now going = record {
   sound = sound;
-  start = subst (λ (l : List Trail). Contains l (kept code [])) (sym grows.seen.1) (Contains-append_left s.seen grows.seen.0 (kept code []) going.start);
+  start = subst (λ (l : List Trail). Contains l (kept_trail code [])) (sym grows.seen.1) (Contains-append_left s.seen grows.seen.0 (kept_trail code []) going.start);
   settled = settled_one_more code s n i r low is grows going.settled now;
   below = let longer = ap length grows.seen.1 ∙ length-append s.seen grows.seen.0 in omega (arith, longer);
 }

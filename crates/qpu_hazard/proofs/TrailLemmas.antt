@@ -7,9 +7,9 @@ use Rattle.qpu_word.specs.declared.code.TheConstants.{WRITE_UNIFORMS_ADDRESS, RE
 use Rattle.qpu_word.specs.Words.{writes, reads}
 use Rattle.qpu_flow.specs.Code.{fields_at}
 use Rattle.qpu_hazard.specs.Demands.{uniform_conflict}
-use Rattle.qpu_hazard.specs.Rules.{when, h4, rules_broken}
+use Rattle.qpu_hazard.specs.Rules.{break_when, h4, rules_broken}
 use Rattle.qpu_hazard.specs.Paths.{earlier_of, broken, follows}
-use Rattle.qpu_hazard.specs.Trails.{trail, advance, follows_from, broken_from, remembered, forget, kept, onward}
+use Rattle.qpu_hazard.specs.Trails.{trail, advance, follows_from, broken_from, remembered, forget, kept_trail, onward}
 
 no_conflict : (before f : Fields) → writes before WRITE_UNIFORMS_ADDRESS ≡ false → uniform_conflict before f ≡ false
 unfolding uniform_conflict
@@ -18,21 +18,21 @@ no_conflict before f none = ap (λ (b : Bool). b && reads f READ_UNIFORM) none
 remembered_word : (code : List ℕ) (a : ℕ) (f : Fields) (b : Bool) → writes (fields_at code a) WRITE_UNIFORMS_ADDRESS ≡ b
     → h4 code (if b then Some a else None) f ≡ h4 code (Some a) f
 remembered_word code a f true is = refl
-remembered_word code a f false is = ap (λ (b : Bool). when b 4 a) (sym (no_conflict (fields_at code a) f is))
+remembered_word code a f false is = ap (λ (b : Bool). break_when b 4 a) (sym (no_conflict (fields_at code a) f is))
 
 -- H4 is the same after what is remembered
 pub h4_remembered : (code : List ℕ) (earlier : Option ℕ) (f : Fields) → h4 code (remembered code earlier) f ≡ h4 code earlier f
 h4_remembered code None f = refl
 h4_remembered code (Some a) f = remembered_word code a f (writes (fields_at code a) WRITE_UNIFORMS_ADDRESS) refl
 
-pub broken_kept : (code t : List ℕ) (a : ℕ) → broken code (a ∷ t) ≡ broken_from code (kept code t) a
-unfolding broken broken_from rules_broken kept forget trail
+pub broken_kept : (code t : List ℕ) (a : ℕ) → broken code (a ∷ t) ≡ broken_from code (kept_trail code t) a
+unfolding broken broken_from rules_broken kept_trail forget trail
 broken_kept code t a = rw (h4_remembered code (earlier_of t) (fields_at code a)) refl
 
-pub follows_kept : (code t : List ℕ) (a : ℕ) → follows code t a ≡ follows_from code (kept code t) a
-unfolding follows follows_from kept forget trail
+pub follows_kept : (code t : List ℕ) (a : ℕ) → follows code t a ≡ follows_from code (kept_trail code t) a
+unfolding follows follows_from kept_trail forget trail
 follows_kept code t a = refl
 
-pub kept_law : (code t : List ℕ) (a : ℕ) → kept code (a ∷ t) ≡ onward code (kept code t) a
-unfolding kept onward forget advance trail
+pub kept_law : (code t : List ℕ) (a : ℕ) → kept_trail code (a ∷ t) ≡ onward code (kept_trail code t) a
+unfolding kept_trail onward forget advance trail
 kept_law code t a = refl

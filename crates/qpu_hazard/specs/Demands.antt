@@ -4,15 +4,11 @@
 use Rattle.std.specs.Prelude.{ℕ, ◌+◌, ◌==◌, ◌&&◌, ◌||◌, Bool, false, not, nat_lt, nat_le, Option, Some, None, is_some, if◌then◌else◌}
 use Rattle.qpu_word.specs.declared.word.Fields.{Fields}
 use Rattle.qpu_word.specs.declared.operation.AddOp.{AddOp}
-use Rattle.qpu_word.specs.declared.code.TheConstants.{MUX_FILE_A, MUX_FILE_B, ROWS, NOWHERE, READ_UNIFORM, READ_VPM, READ_DMA_BUSY, READ_DMA_WAIT, READ_MUTEX, WRITE_R0, WRITE_R3, WRITE_R5, WRITE_UNIFORMS_ADDRESS, WRITE_VPM, WRITE_VPM_SETUP, WRITE_DMA_ADDRESS, WRITE_TMU0_S, WRITE_TMU1_S, ROTATE_BY_R5}
-use Rattle.qpu_word.specs.Words.{between, is_alu, is_small, is_load, is_semaphore, is_branch, is_tmu_load, add_active, mul_active, add_writes, mul_writes, uses, reads, reads_a, reads_b, writes, writes_a, writes_b}
+use Rattle.qpu_word.specs.declared.code.TheConstants.{COND_ALWAYS, MUX_FILE_A, MUX_FILE_B, ROWS, NOWHERE, READ_UNIFORM, READ_VPM, READ_DMA_BUSY, READ_DMA_WAIT, READ_MUTEX, WRITE_R0, WRITE_R3, WRITE_R5, WRITE_UNIFORMS_ADDRESS, WRITE_VPM, WRITE_VPM_SETUP, WRITE_DMA_ADDRESS, WRITE_TMU0_S, WRITE_TMU1_S, ROTATE_BY_R5}
+use Rattle.qpu_word.specs.Words.{one_if, between, is_alu, is_small, is_load, is_semaphore, is_branch, is_tmu_load, add_active, mul_active, add_writes, mul_writes, uses, reads, reads_a, reads_b, writes, writes_a, writes_b}
 use Rattle.qpu_word.specs.Operations.{add_op, add_carry}
 use Rattle.qpu_word.specs.Instruction.{is_look_address}
-use Rattle.qpu_hazard.specs.declared.demands.TheConstants.{END_ROW, MUX_R3, MUX_R4, COND_ALWAYS, COND_ZN_FIRST, COND_ZN_LAST, COND_C_FIRST, COND_C_LAST, BRANCH_ZN_LAST, BRANCH_C_FIRST, BRANCH_C_LAST}
-
--- 1 where a test holds, else 0
-abbrev pub one : Bool → ℕ
-one test = if test then 1 else 0
+use Rattle.qpu_hazard.specs.declared.demands.TheConstants.{END_ROW, MUX_R3, MUX_R4, COND_ZN_FIRST, COND_ZN_LAST, COND_C_FIRST, COND_C_LAST, BRANCH_ZN_LAST, BRANCH_C_FIRST, BRANCH_C_LAST}
 
 -- rows
 
@@ -82,18 +78,18 @@ accesses f =
 -- how often a word accesses the VPM
 unfoldable pub vpm_accesses : Fields → ℕ
 vpm_accesses f =
-    one (reads_a f READ_VPM) + one (reads_b f READ_VPM)
-    + one (add_writes f && (f.waddr_add == WRITE_VPM)) + one (mul_writes f && (f.waddr_mul == WRITE_VPM))
+    one_if (reads_a f READ_VPM) + one_if (reads_b f READ_VPM)
+    + one_if (add_writes f && (f.waddr_add == WRITE_VPM)) + one_if (mul_writes f && (f.waddr_mul == WRITE_VPM))
 
 -- what only one of may stand in a word
 
 -- how many look-ups, TMU loads, acquirings of the mutex and semaphore steps a word has
 unfoldable pub actions : Fields → ℕ
 actions f =
-    one (add_writes f && is_look_address f.waddr_add) + one (mul_writes f && is_look_address f.waddr_mul)
-    + one (is_tmu_load f 0 || is_tmu_load f 1)
-    + one (reads_a f READ_MUTEX) + one (reads_b f READ_MUTEX)
-    + one (is_semaphore f)
+    one_if (add_writes f && is_look_address f.waddr_add) + one_if (mul_writes f && is_look_address f.waddr_mul)
+    + one_if (is_tmu_load f 0 || is_tmu_load f 1)
+    + one_if (reads_a f READ_MUTEX) + one_if (reads_b f READ_MUTEX)
+    + one_if (is_semaphore f)
 
 -- an address that is one place, whichever unit writes it: rows, and the addresses of setups and of
 -- DMA, are other places in file A and in file B
@@ -166,8 +162,8 @@ look_place unit = if unit == 0 then WRITE_TMU0_S else WRITE_TMU1_S
 -- the look-ups of a unit that a word makes
 unfoldable pub looks_made : Fields → ℕ → ℕ
 looks_made f unit =
-    one (add_writes f && (f.waddr_add == look_place unit)) + one (mul_writes f && (f.waddr_mul == look_place unit))
+    one_if (add_writes f && (f.waddr_add == look_place unit)) + one_if (mul_writes f && (f.waddr_mul == look_place unit))
 
 -- the look-ups of a unit that a word takes
 unfoldable pub looks_taken : Fields → ℕ → ℕ
-looks_taken f unit = one (is_tmu_load f unit)
+looks_taken f unit = one_if (is_tmu_load f unit)

@@ -8,7 +8,7 @@ use Rattle.qpu_flow.specs.Code.{fields_at}
 use Rattle.qpu_flow.specs.Control.{slots_after, next_from, leads_to}
 use Rattle.qpu_hazard.specs.declared.breaks.Break.{Break}
 use Rattle.qpu_hazard.specs.Demands.{loads_r4, sets_flags, defines_carry, looks_made, looks_taken}
-use Rattle.qpu_hazard.specs.Rules.{when, rules_broken}
+use Rattle.qpu_hazard.specs.Rules.{break_when, rules_broken}
 
 -- what a path leaves
 
@@ -28,39 +28,39 @@ slots_of code [] = None
 slots_of code (a ∷ t) = slots_after code (slots_of code t) a
 
 -- r4 is defined: some word was a TMU load
-abbrev pub loaded_of : List ℕ → List ℕ → Bool
-loaded_of code [] = false
-loaded_of code (a ∷ t) = loads_r4 (fields_at code a) || loaded_of code t
+abbrev pub r4_defined : List ℕ → List ℕ → Bool
+r4_defined code [] = false
+r4_defined code (a ∷ t) = loads_r4 (fields_at code a) || r4_defined code t
 
 -- Z and N are defined: some word set the flags
-abbrev pub flags_of : List ℕ → List ℕ → Bool
-flags_of code [] = false
-flags_of code (a ∷ t) = sets_flags (fields_at code a) || flags_of code t
+abbrev pub flags_defined : List ℕ → List ℕ → Bool
+flags_defined code [] = false
+flags_defined code (a ∷ t) = sets_flags (fields_at code a) || flags_defined code t
 
 -- C after a word
 abbrev pub carry_after : Fields → Bool → Bool
 carry_after f before = if sets_flags f then defines_carry f else before
 
 -- C is defined: the last setting defined it
-abbrev pub carry_of : List ℕ → List ℕ → Bool
-carry_of code [] = false
-carry_of code (a ∷ t) = carry_after (fields_at code a) (carry_of code t)
+abbrev pub c_defined : List ℕ → List ℕ → Bool
+c_defined code [] = false
+c_defined code (a ∷ t) = carry_after (fields_at code a) (c_defined code t)
 
 -- the outstanding look-ups of a unit after a word
 abbrev pub looks_after : Fields → ℕ → ℕ → ℕ
 looks_after f unit looks = looks + looks_made f unit - looks_taken f unit
 
 -- the outstanding look-ups of a unit
-abbrev pub looks_of : List ℕ → ℕ → List ℕ → ℕ
-looks_of code unit [] = 0
-looks_of code unit (a ∷ t) = looks_after (fields_at code a) unit (looks_of code unit t)
+abbrev pub outstanding_looks : List ℕ → ℕ → List ℕ → ℕ
+outstanding_looks code unit [] = 0
+outstanding_looks code unit (a ∷ t) = looks_after (fields_at code a) unit (outstanding_looks code unit t)
 
 -- the rules that the last word of a path breaks; a program without words breaks H10 before any word
 unfoldable pub broken : List ℕ → List ℕ → List Break
-broken code [] = when (length code == 0) 10 0
+broken code [] = break_when (length code == 0) 10 0
 broken code (a ∷ t) =
-    rules_broken code (last_of t) (earlier_of t) (slots_of code t) (loaded_of code t) (flags_of code t)
-    (carry_of code t) (looks_of code 0 t) (looks_of code 1 t) a
+    rules_broken code (last_of t) (earlier_of t) (slots_of code t) (r4_defined code t) (flags_defined code t)
+    (c_defined code t) (outstanding_looks code 0 t) (outstanding_looks code 1 t) a
 
 -- what may follow a path
 abbrev pub next_of : List ℕ → List ℕ → Successors

@@ -6,15 +6,15 @@ use Rattle.qpu_hazard.specs.declared.breaks.Hazard.{Hazard}
 use Rattle.qpu_hazard.specs.Paths.{IsPath, broken}
 
 -- the place at which a path ends; 0 where it has no word
-abbrev pub end_of : List ℕ → ℕ
-end_of [] = 0
-end_of (a ∷ t) = a
+abbrev pub path_end : List ℕ → ℕ
+path_end [] = 0
+path_end (a ∷ t) = a
 
 -- some path that ends at the place breaks the rule there, told with the place before
 pub record IsRefusable (code : List ℕ) (h : Hazard) : Type 0 where
   pub path : List ℕ
   pub is_path : IsPath code path
-  pub ends : end_of path ≡ h.at
+  pub ends : path_end path ≡ h.at
   pub breaks : Contains (broken code path) (record { rule = h.rule; before = h.before })
 
 -- one hazard is not after another: by place, rule, and the place told with it

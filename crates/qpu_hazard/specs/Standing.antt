@@ -1,7 +1,7 @@
 -- Where a processor stands on a path: at a word that may follow, with a branch or program end in
 -- progress as the path leaves it, and its choice made. This project's own.
 use Rattle.std.specs.Prelude.{◌≡◌, ◌⊎◌, ◌<◌, ◌/◌, ℕ, true, false, List, Option, IfSome, IsSomeAnd, IsTrue}
-use Rattle.qpu_word.specs.declared.code.TheConstants.{WORD_BYTES}
+use Rattle.qpu_word.specs.declared.code.TheConstants.{INSTRUCTION_BYTES}
 use Rattle.qpu_word.specs.Words.{is_branch, is_program_end}
 use Rattle.qpu_word.specs.Instruction.{is_link_point}
 use Rattle.qpu_word.specs.declared.state.Rest.{Rest as ProcessorRest}
@@ -10,17 +10,17 @@ use Rattle.qpu_word.specs.declared.state.Halt.{Halt}
 use Rattle.qpu_word.specs.declared.state.Halt.TheVariants.{Going, Ended as HasEnded, Faulted}
 use Rattle.qpu_flow.specs.declared.slots.Slots.{Slots}
 use Rattle.qpu_flow.specs.declared.control.Control.{Control}
-use Rattle.qpu_flow.specs.declared.control.Rest.{Rest}
-use Rattle.qpu_flow.specs.declared.control.Rest.TheVariants.{Straight, Ending, To}
+use Rattle.qpu_flow.specs.declared.control.Progress.{Progress}
+use Rattle.qpu_flow.specs.declared.control.Progress.TheVariants.{Straight, Ending, To}
 use Rattle.qpu_flow.specs.declared.control.Next.{Next}
 use Rattle.qpu_flow.specs.declared.control.Next.TheVariants.{At, AnyLink, Ended, Outside}
 use Rattle.qpu_flow.specs.Code.{fields_at}
-use Rattle.qpu_flow.specs.Control.{is_always, is_register, plain_target, target_from, nowhere}
+use Rattle.qpu_flow.specs.Control.{is_always, is_register_branch, plain_target, target_from, nowhere}
 use Rattle.qpu_hazard.specs.Paths.{slots_of, next_of, follows}
 
 -- what is in progress fits the slots that a path leaves: nothing where none are left to execute, or
 -- after a branch that can be left untaken; program end, or a taken branch, with as many slots left
-abbrev pub RestIs : List ℕ → Option Slots → Rest → Type 0
+abbrev pub RestIs : List ℕ → Option Slots → Progress → Type 0
 RestIs code slots Straight =
     IfSome slots (λ s.
     (s.left ≡ 0) ⊎ ((is_branch (fields_at code s.place) ≡ true) × (is_always (fields_at code s.place) ≡ false)))
@@ -49,8 +49,8 @@ Goes code t Outside = ⊥
 -- a place that a taken branch goes to: a link point by a register, else its target
 abbrev pub IsTargetOf : List ℕ → ℕ → ℕ → Type 0
 IsTargetOf code branch place =
-    ((is_register (fields_at code branch) ≡ true) × (is_link_point code place ≡ true))
-    ⊎ ((is_register (fields_at code branch) ≡ false) × (place ≡ plain_target branch (fields_at code branch) / WORD_BYTES))
+    ((is_register_branch (fields_at code branch) ≡ true) × (is_link_point code place ≡ true))
+    ⊎ ((is_register_branch (fields_at code branch) ≡ false) × (place ≡ plain_target branch (fields_at code branch) / INSTRUCTION_BYTES))
 
 -- a processor's rest fits the slots that a path leaves
 abbrev pub ProcessorRestIs : List ℕ → Option Slots → ProcessorRest → Type 0

@@ -8,7 +8,7 @@ use Rattle.qpu_hazard.specs.declared.breaks.Break.{Break}
 use Rattle.qpu_hazard.specs.declared.trail.Trail.{Trail}
 use Rattle.qpu_hazard.specs.Demands.{loads_r4, sets_flags}
 use Rattle.qpu_hazard.specs.Rules.{rules_broken}
-use Rattle.qpu_hazard.specs.Paths.{last_of, earlier_of, slots_of, loaded_of, flags_of, carry_of, carry_after, looks_of, looks_after}
+use Rattle.qpu_hazard.specs.Paths.{last_of, earlier_of, slots_of, r4_defined, flags_defined, c_defined, carry_after, outstanding_looks, looks_after}
 
 -- the trail of a path
 unfoldable pub trail : List ℕ → List ℕ → Trail
@@ -16,11 +16,11 @@ trail code t = record {
   last = last_of t;
   earlier = earlier_of t;
   slots = slots_of code t;
-  loaded = loaded_of code t;
-  flags = flags_of code t;
-  carry = carry_of code t;
-  looks_0 = looks_of code 0 t;
-  looks_1 = looks_of code 1 t;
+  loaded = r4_defined code t;
+  flags = flags_defined code t;
+  carry = c_defined code t;
+  looks_0 = outstanding_looks code 0 t;
+  looks_1 = outstanding_looks code 1 t;
 }
 
 -- the trail one word further
@@ -54,8 +54,8 @@ unfoldable pub forget : List ℕ → Trail → Trail
 forget code r = record r { earlier = remembered code r.earlier }
 
 -- what is kept of a path, and of a trail one word further
-unfoldable pub kept : List ℕ → List ℕ → Trail
-kept code t = forget code (trail code t)
+unfoldable pub kept_trail : List ℕ → List ℕ → Trail
+kept_trail code t = forget code (trail code t)
 
 unfoldable pub onward : List ℕ → Trail → ℕ → Trail
 onward code r a = forget code (advance code r a)

@@ -3,7 +3,7 @@ ghost use Rattle.std.specs.Prelude.{◌≡◌, ◌⊎◌, Some, MatchBool, All, 
 ghost use Rattle.qpu_hazard.specs.declared.breaks.Hazard.{Hazard};
 ghost use Rattle.qpu_hazard.specs.declared.breaks.Break.{Break};
 ghost use Rattle.qpu_hazard.specs.Refusal.{NotAfter};
-ghost use Rattle.qpu_hazard.specs.Search.{AtMost, broken_at};
+ghost use Rattle.qpu_hazard.specs.Search.{AtMost, hazard_at};
 
 use crate::breaks::{Break, Hazard};
 
@@ -37,8 +37,8 @@ fn keep_first(best: &mut Option<Hazard>, h: Hazard)
 /// Keeps the first of the best hazard and the breaks of the word at a place.
 pub(crate) fn keep_all(best: &mut Option<Hazard>, breaks: &[Break], at: u32)
     ensures falls { (x : Hazard) → AtMost best.old x → AtMost best.new x }
-    ensures least { All (λ b. AtMost best.new (broken_at at b)) breaks.now }
-    ensures one { (best.new ≡ best.old) ⊎ ((b : Break) × Contains breaks.now b × (best.new ≡ Some (broken_at at b))) }
+    ensures least { All (λ b. AtMost best.new (hazard_at at b)) breaks.now }
+    ensures one { (best.new ≡ best.old) ⊎ ((b : Break) × Contains breaks.now b × (best.new ≡ Some (hazard_at at b))) }
 {
     for b in breaks {
         let h = Hazard {

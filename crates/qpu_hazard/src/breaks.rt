@@ -1,6 +1,6 @@
 //! Breaks of rules, and the list that a word's breaks are noted in.
 ghost use Rattle.std.specs.Prelude.{◌≡◌, ◌++◌, OnOk};
-ghost use Rattle.qpu_hazard.specs.Rules.{when, in_slot};
+ghost use Rattle.qpu_hazard.specs.Rules.{break_when, in_slot};
 
 use std::alloc::AllocError;
 
@@ -33,7 +33,7 @@ pub(crate) fn note(
     rule: u32,
     before: u32,
 ) -> Result<(), AllocError>
-    ensures { OnOk result (breaks.new.items ≡ breaks.old.items ++ when test rule before) }
+    ensures { OnOk result (breaks.new.items ≡ breaks.old.items ++ break_when test rule before) }
 {
     if !test {
         return Ok(());

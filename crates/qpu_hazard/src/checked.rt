@@ -2,7 +2,8 @@
 ghost use Rattle.std.specs.Prelude.{◌≡◌, ◌<◌, ◌≤◌, length, IfOk, OnOk, IfErr, slice_index};
 ghost use Rattle.std.specs.Option.{SomeIff};
 ghost use Rattle.qpu_word.specs.Instruction.{is_link_point};
-ghost use Rattle.qpu_flow.specs.Code.{numbers_of, AllInProfile};
+ghost use Rattle.qpu_word.specs.Words.{numbers_of};
+ghost use Rattle.qpu_flow.specs.Code.{AllInProfile};
 ghost use Rattle.qpu_hazard.specs.Paths.{IsClean};
 ghost use Rattle.qpu_hazard.specs.Refusal.{NoneRefusable};
 ghost use Rattle.qpu_hazard.specs.Faults.{IsCheckFault};

@@ -1,16 +1,15 @@
 //! What the hazard rules ask of one word, and of two words executed one after the other.
 ghost use Rattle.std.specs.Prelude.{◌≡◌, ◌<◌, ◌≤◌};
-ghost use Rattle.qpu_word.specs.Words.{between};
-ghost use Rattle.qpu_word.specs.Instruction.{is_look_address};
+ghost use Rattle.qpu_word.specs.Words.{between, one_if};
 ghost use Rattle.qpu_word.specs.Operations.{add_op};
-ghost use Rattle.qpu_hazard.specs.Demands.{one, takes_row_a, takes_row_b, adds_row, row_conflict, reads_row, writes_row, touches_end_row, rotates, rotation_conflict, writes_mux, rotated_conflict, uniform_conflict, accesses, vpm_accesses, actions, is_one_place, writes_one_place, writes_by_condition, add_tests, mul_tests, tests_zn, tests_carry, sets_flags, has_carry, defines_carry, uses_r4, loads_r4, look_place, looks_made, looks_taken};
+ghost use Rattle.qpu_hazard.specs.Demands.{takes_row_a, takes_row_b, adds_row, row_conflict, reads_row, writes_row, touches_end_row, rotates, rotation_conflict, writes_mux, rotated_conflict, uniform_conflict, accesses, vpm_accesses, actions, is_one_place, writes_one_place, writes_by_condition, add_tests, mul_tests, tests_zn, tests_carry, sets_flags, has_carry, defines_carry, uses_r4, loads_r4, look_place, looks_made, looks_taken};
 
 use qpu_word::code::{
-    MUX_FILE_A, MUX_FILE_B, NOWHERE, READ_DMA_BUSY, READ_DMA_WAIT, READ_MUTEX, READ_UNIFORM,
-    READ_VPM, ROTATE_BY_R5, ROWS, WRITE_DMA_ADDRESS, WRITE_R0, WRITE_R3, WRITE_R5, WRITE_TMU0_S,
-    WRITE_TMU1_S, WRITE_UNIFORMS_ADDRESS, WRITE_VPM, WRITE_VPM_SETUP,
+    COND_ALWAYS, MUX_FILE_A, MUX_FILE_B, NOWHERE, READ_DMA_BUSY, READ_DMA_WAIT, READ_MUTEX,
+    READ_UNIFORM, READ_VPM, ROTATE_BY_R5, ROWS, WRITE_DMA_ADDRESS, WRITE_R0, WRITE_R3, WRITE_R5,
+    WRITE_TMU0_S, WRITE_TMU1_S, WRITE_UNIFORMS_ADDRESS, WRITE_VPM, WRITE_VPM_SETUP,
 };
-use qpu_word::{AddOp, Fields};
+use qpu_word::{AddOp, Fields, is_look_address};
 
 /// The row of either file that program end and its slots leave alone.
 pub(crate) const END_ROW: u32 = 14;
@@ -19,10 +18,6 @@ pub(crate) const END_ROW: u32 = 14;
 pub(crate) const MUX_R3: u32 = 3;
 
 pub(crate) const MUX_R4: u32 = 4;
-
-/// The write condition that always holds; the first and the last that test Z or N; those that test
-/// C (Guide, "QPU Instruction Encoding").
-pub(crate) const COND_ALWAYS: u32 = 1;
 
 pub(crate) const COND_ZN_FIRST: u32 = 2;
 
@@ -39,12 +34,9 @@ pub(crate) const BRANCH_C_FIRST: u32 = 8;
 
 pub(crate) const BRANCH_C_LAST: u32 = 11;
 
-/// The most look-ups of a unit that can be outstanding.
-pub const LOOKS_MOST: u32 = 4;
-
 /// 1 where a test holds, else 0.
 fn one(test: bool) -> u32
-    ensures value { result ≡ one test }
+    ensures value { result ≡ one_if test }
     ensures small { result ≤ 1 }
 {
     if test { 1 } else { 0 }
@@ -177,13 +169,6 @@ pub(crate) fn vpm_accesses(f: &Fields) -> u32
         + one(f.mul_writes_to(WRITE_VPM))
 }
 
-/// Whether an address issues a look-up.
-fn is_look_address(address: u32) -> bool
-    ensures { result ≡ is_look_address address }
-{
-    address == WRITE_TMU0_S || address == WRITE_TMU1_S
-}
-
 /// How many look-ups, TMU loads, acquirings of the mutex and semaphore steps a word has.
 #[tactic(auto, unfolding(crate::specs::Demands::actions))]
 pub(crate) fn actions(f: &Fields) -> u32
@@ -191,7 +176,7 @@ pub(crate) fn actions(f: &Fields) -> u32
 {
     one(f.add_writes() && is_look_address(f.waddr_add))
         + one(f.mul_writes() && is_look_address(f.waddr_mul))
-        + one(f.takes_words())
+        + one(f.has_tmu_load())
         + one(f.reads_a(READ_MUTEX))
         + one(f.reads_b(READ_MUTEX))
         + one(f.is_semaphore())
@@ -295,7 +280,7 @@ pub(crate) fn uses_r4(f: &Fields) -> bool
 pub(crate) fn loads_r4(f: &Fields) -> bool
     ensures { result ≡ loads_r4 f.now }
 {
-    f.takes_words()
+    f.has_tmu_load()
 }
 
 /// The address whose writes are look-ups of a unit.

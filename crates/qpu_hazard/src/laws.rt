@@ -8,7 +8,7 @@ ghost use Rattle.qpu_word.specs.declared.word.Fields.{Fields};
 ghost use Rattle.qpu_flow.specs.Code.{fields_at};
 ghost use Rattle.qpu_flow.specs.Control.{follow};
 ghost use Rattle.qpu_flow.specs.declared.control.Control.{Control};
-ghost use Rattle.qpu_flow.specs.declared.control.Rest.TheVariants.{Straight};
+ghost use Rattle.qpu_flow.specs.declared.control.Progress.TheVariants.{Straight};
 ghost use Rattle.qpu_hazard.specs.Demands.{sets_flags};
 ghost use Rattle.qpu_hazard.specs.Holds.{WordHolds};
 ghost use Rattle.qpu_hazard.specs.Paths.{IsPath, IsClean, broken, carry_after, follows};
@@ -68,7 +68,7 @@ pub fn processors_stay_on_a_path()
 {}
 
 /// The masks of a processor are defined where its path defines them, and none else.
-pub fn masks_are_defined_by_the_path()
+pub fn a_word_defines_masks()
     ensures zn { (f : Fields) (p : ProcessorState) (ins : Ins) → is_some (flags_after f p ins).zn ≡ (sets_flags f || is_some p.flags.zn) }
     ensures carry { (f : Fields) (p : ProcessorState) (ins : Ins) → is_some (flags_after f p ins).c ≡ carry_after f (is_some p.flags.c) }
 {}

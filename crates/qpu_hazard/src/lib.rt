@@ -18,9 +18,8 @@ mod trail;
 
 pub use breaks::{Break, Hazard};
 pub use checked::{CheckFault, Checked, Programs, check};
-pub use demands::LOOKS_MOST;
 pub use laws::{
-    clean_programs_are_not_refused, masks_are_defined_by_the_path, opens_on_a_path,
+    a_word_defines_masks, clean_programs_are_not_refused, opens_on_a_path,
     processors_open_on_a_path, processors_stay_on_a_path, stays_on_a_path, the_next_word_holds,
     trails_tell_the_next_trail, trails_tell_what_breaks, trails_tell_what_follows,
 };

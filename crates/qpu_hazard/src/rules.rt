@@ -7,13 +7,14 @@ ghost use Rattle.qpu_hazard.specs.Fitting.{Fits};
 
 use crate::breaks::{Break, note, note_in_slot};
 use crate::demands::{
-    LOOKS_MOST, accesses, actions, looks_made, looks_taken, rotated_conflict, rotation_conflict,
-    row_conflict, tests_carry, tests_zn, touches_end_row, uniform_conflict, uses_r4, vpm_accesses,
+    accesses, actions, looks_made, looks_taken, rotated_conflict, rotation_conflict, row_conflict,
+    tests_carry, tests_zn, touches_end_row, uniform_conflict, uses_r4, vpm_accesses,
     writes_by_condition, writes_one_place, writes_row,
 };
 use crate::trail::Trail;
 use qpu_flow::{Flow, Slots};
 use qpu_word::Fields;
+use qpu_word::code::LOOK_UPS;
 use std::alloc::{AllocError, Global};
 
 /// The numbers of the rules.
@@ -165,7 +166,7 @@ fn note_looks(
     let looks = looks + looks_made(f, unit);
     note(
         breaks,
-        LOOKS_MOST < looks || looks < looks_taken(f, unit),
+        LOOK_UPS < looks || looks < looks_taken(f, unit),
         H13,
         at,
     )

@@ -2,7 +2,7 @@
 ghost use Rattle.std.specs.Prelude.{◌≡◌, ◌<◌, ◌*◌, ℕ, true, length, OnOk, IfOk, IsTrue, All};
 ghost use Rattle.qpu_flow.specs.Control.{asks_for, next_from, link_points};
 ghost use Rattle.qpu_hazard.specs.Trails.{follows_from};
-ghost use Rattle.qpu_hazard.specs.Search.{Known, Sound, Settled, AllSettled, Grows, IsClosed};
+ghost use Rattle.qpu_hazard.specs.Search.{Known, IsSoundSearch, Settled, AllSettled, Grows, IsClosed};
 
 use crate::best::keep_all;
 use crate::breaks::Hazard;
@@ -26,8 +26,8 @@ impl Search {
     fn visit(&mut self, alloc: Global, flow: &Flow, r: &Trail, at: u32) -> Result<(), AllocError>
         requires known { Known flow.now r.now }
         requires follows { IsTrue (follows_from flow.now r.now at) }
-        requires sound { Sound flow.now self.old }
-        ensures sound { OnOk result (Sound flow.now self.new) }
+        requires sound { IsSoundSearch flow.now self.old }
+        ensures sound { OnOk result (IsSoundSearch flow.now self.new) }
         ensures grows { OnOk result (Grows self.old self.new) }
         ensures settled { OnOk result (Settled flow.now self.new r.now at) }
     {
@@ -50,8 +50,8 @@ impl Search {
     ) -> Result<(), AllocError>
         requires known { Known flow.now r.now }
         requires follows { (a : ℕ) → asks_for ahead a ≡ true → a < length flow.now → IsTrue (follows_from flow.now r.now a) }
-        requires sound { Sound flow.now self.old }
-        ensures sound { OnOk result (Sound flow.now self.new) }
+        requires sound { IsSoundSearch flow.now self.old }
+        ensures sound { OnOk result (IsSoundSearch flow.now self.new) }
         ensures grows { OnOk result (Grows self.old self.new) }
         ensures settled { OnOk result ((a : ℕ) → asks_for ahead a ≡ true → a < length flow.now → Settled flow.now self.new r.now a) }
     {
@@ -74,8 +74,8 @@ impl Search {
     ) -> Result<(), AllocError>
         requires known { Known flow.now r.now }
         requires follows { (a : ℕ) → asks_for jump (8 * a) ≡ true → a < length flow.now → IsTrue (follows_from flow.now r.now a) }
-        requires sound { Sound flow.now self.old }
-        ensures sound { OnOk result (Sound flow.now self.new) }
+        requires sound { IsSoundSearch flow.now self.old }
+        ensures sound { OnOk result (IsSoundSearch flow.now self.new) }
         ensures grows { OnOk result (Grows self.old self.new) }
         ensures settled { OnOk result ((a : ℕ) → asks_for jump (8 * a) ≡ true → a < length flow.now → Settled flow.now self.new r.now a) }
     {
@@ -92,8 +92,8 @@ impl Search {
     fn visit_links(&mut self, alloc: Global, flow: &Flow, r: &Trail) -> Result<(), AllocError>
         requires known { Known flow.now r.now }
         requires any { (next_from flow.now r.now.slots r.now.last).any_link ≡ true }
-        requires sound { Sound flow.now self.old }
-        ensures sound { OnOk result (Sound flow.now self.new) }
+        requires sound { IsSoundSearch flow.now self.old }
+        ensures sound { OnOk result (IsSoundSearch flow.now self.new) }
         ensures grows { OnOk result (Grows self.old self.new) }
         ensures settled { OnOk result (All (Settled flow.now self.new r.now) (link_points flow.now)) }
     {
@@ -106,8 +106,8 @@ impl Search {
     /// Looks at each word that may follow a trail.
     fn visit_all(&mut self, alloc: Global, flow: &Flow, r: &Trail) -> Result<(), AllocError>
         requires known { Known flow.now r.now }
-        requires sound { Sound flow.now self.old }
-        ensures sound { OnOk result (Sound flow.now self.new) }
+        requires sound { IsSoundSearch flow.now self.old }
+        ensures sound { OnOk result (IsSoundSearch flow.now self.new) }
         ensures grows { OnOk result (Grows self.old self.new) }
         ensures settled { OnOk result (AllSettled flow.now self.new r.now) }
     {

@@ -9,10 +9,10 @@ use Rattle.qpu_dis.specs.Tokens.{bit_written}
 use Rattle.qpu_inverse.proofs.Readings.{IsUsed, IsInside}
 
 -- the symbols of bits as they are written
-abbrev pub written : List Bit → List Symbol
-written bits = flat_map bit_written bits
+abbrev pub symbols_written : List Bit → List Symbol
+symbols_written bits = flat_map bit_written bits
 
-pub written_append : (a b : List Bit) → written (a ++ b) ≡ written a ++ written b
+pub written_append : (a b : List Bit) → symbols_written (a ++ b) ≡ symbols_written a ++ symbols_written b
 written_append a b = flat_map-append bit_written a b
 
 pub symbols_append : (a b : List Bit) → symbols_of (a ++ b) ≡ symbols_of a ++ symbols_of b
@@ -22,7 +22,7 @@ abbrev pub AllUsed : List Symbol → Type 0
 AllUsed [] = Unit {0}
 AllUsed (s ∷ ss) = IsUsed s × AllUsed ss
 
-pub bits_used : (bits : List Bit) → AllUsed (written bits)
+pub bits_used : (bits : List Bit) → AllUsed (symbols_written bits)
 bits_used [] = tt
 bits_used (Word n ∷ bits) = (tt, bits_used bits)
 bits_used (Number (Decimal n) ∷ bits) = (tt, bits_used bits)

@@ -10,7 +10,7 @@ use Rattle.qpu_line.specs.Lines.{Bit, Word, Dot, Space, symbols_of}
 use Rattle.qpu_dis.specs.Tokens.{symbol_of}
 use Rattle.qpu_inverse.proofs.Readings.{token_of, a_name, a_number, a_dot, a_minus}
 use Rattle.qpu_inverse.proofs.Spelling.{Spells, parts_of, spells_both}
-use Rattle.qpu_inverse.proofs.Bits.{written, written_append, symbols_append, AllInside, inside_both, BeginsNoDot, AreSuffixes}
+use Rattle.qpu_inverse.proofs.Bits.{symbols_written, written_append, symbols_append, AllInside, inside_both, BeginsNoDot, AreSuffixes}
 use Rattle.qpu_inverse.proofs.Operands.{clean, Puts, IsOperand}
 use Rattle.qpu_inverse.proofs.Pieces.{BeginsName, IsPiece}
 
@@ -35,7 +35,7 @@ none_first text (s ∷ ss) (a ∷ b ∷ ts) undotted inside h = stops_at text a 
 one_more : (text : List ℕ) (d n : Token) (ts : List Token) (k : ℕ) → is_dot text d ≡ true → is_name text n ≡ true → suffixes text ts ≡ k → suffixes text (d ∷ n ∷ ts) ≡ 2 + k
 one_more text d n ts k dot name e = rw (dot, name, e) refl
 
-counted : (text : List ℕ) (bits : List Bit) (sf ts : List Token) → AreSuffixes bits → Spells text (written bits) sf → suffixes text ts ≡ 0
+counted : (text : List ℕ) (bits : List Bit) (sf ts : List Token) → AreSuffixes bits → Spells text (symbols_written bits) sf → suffixes text ts ≡ 0
     → suffixes text (sf ++ ts) ≡ length sf
 counted text [] [] ts are h none = none
 counted text [] (t ∷ sf) ts are h none = absurd h
@@ -48,12 +48,12 @@ counted text (Dot ∷ Word n ∷ bits) (d ∷ m ∷ sf) ts are h none =
 counted text _ sf ts are h none = absurd are
 
 -- they are left as they are
-pub suffixes_left : (bits : List Bit) → AreSuffixes bits → symbols_of bits ≡ written bits
+pub suffixes_left : (bits : List Bit) → AreSuffixes bits → symbols_of bits ≡ symbols_written bits
 suffixes_left [] are = refl
 suffixes_left (Dot ∷ Word n ∷ bits) are = ap (λ z. symbol.Dot ∷ symbol.Name n ∷ z) (suffixes_left bits are)
 suffixes_left _ are = absurd are
 
-suffixes_inside : (bits : List Bit) → AreSuffixes bits → AllInside (written bits)
+suffixes_inside : (bits : List Bit) → AreSuffixes bits → AllInside (symbols_written bits)
 suffixes_inside [] are = tt
 suffixes_inside (Dot ∷ Word n ∷ bits) are = (tt, (tt, suffixes_inside bits are))
 suffixes_inside _ are = absurd are
@@ -71,15 +71,15 @@ unfolding put_first
 first_put text m sf ts xs name e = rw (name, e, drop-append_seam sf ts, take-append_seam sf ts) refl
 
 piece_puts : (text : List ℕ) (op : Name) (sfx operand : List Bit) → AreSuffixes sfx → IsOperand text operand
-    → (ts : List Token) → Spells text (symbol.Name op ∷ (written sfx ++ written operand)) ts
+    → (ts : List Token) → Spells text (symbol.Name op ∷ (symbols_written sfx ++ symbols_written operand)) ts
     → Puts text (symbol.Name op ∷ (symbols_of sfx ++ symbols_of operand)) (put_first text [] ts)
 piece_puts text op sfx operand are o [] h = absurd h
 piece_puts text op sfx operand are o (m ∷ rest) h =
-    let p = parts_of text (written sfx) (written operand) rest h.1 in
+    let p = parts_of text (symbols_written sfx) (symbols_written operand) rest h.1 in
     let put = o.puts p.back p.back_spells in
     let name : is_name text m ≡ true = (a_name text m (token_of text m (symbol.Name op) h.0)).name_is in
     let count : suffixes text (p.front ++ p.back) ≡ length p.front =
-    counted text sfx p.front p.back are p.front_spells (none_first text (written operand) p.back o.no_dot o.inside p.back_spells) in
+    counted text sfx p.front p.back are p.front_spells (none_first text (symbols_written operand) p.back o.no_dot o.inside p.back_spells) in
     subst (λ z. Puts text (symbol.Name op ∷ (symbols_of sfx ++ symbols_of operand)) (put_first text [] (m ∷ z))) (sym p.same)
     (record {
       tokens = m ∷ p.front ++ put.tokens;
@@ -91,7 +91,7 @@ piece_puts text op sfx operand are o (m ∷ rest) h =
 
 -- the same with a space before the operand, or without one
 pub record IsHead (op : Name) (sfx operand bits : List Bit) : Type 0 where
-  pub as_written : written bits ≡ symbol.Name op ∷ (written sfx ++ written operand)
+  pub as_written : symbols_written bits ≡ symbol.Name op ∷ (symbols_written sfx ++ symbols_written operand)
   pub as_symbols : symbols_of bits ≡ symbol.Name op ∷ (symbols_of sfx ++ symbols_of operand)
 
 begins_so : (ss : List Symbol) (op : Name) (tt : List Symbol) → ss ≡ symbol.Name op ∷ tt → BeginsName ss
@@ -106,8 +106,8 @@ head_piece text op sfx operand bits are o head = record {
         spells = subst (λ z. Spells text z put.tokens) (sym head.as_symbols) put.spells;
         puts = λ xs. rw stands (put.puts xs);
       };
-  inside = subst AllInside (sym head.as_written) (tt, inside_both (written sfx) (written operand) (suffixes_inside sfx are) o.inside);
-  begins = λ e. begins_so (written bits) op (written sfx ++ written operand) head.as_written;
+  inside = subst AllInside (sym head.as_written) (tt, inside_both (symbols_written sfx) (symbols_written operand) (suffixes_inside sfx are) o.inside);
+  begins = λ e. begins_so (symbols_written bits) op (symbols_written sfx ++ symbols_written operand) head.as_written;
 }
 
 pub spaced_head : (text : List ℕ) (op : Name) (sfx operand : List Bit) → AreSuffixes sfx → IsOperand text operand

@@ -26,7 +26,7 @@ use Rattle.qpu_line.specs.Loads.{write_target}
 use Rattle.qpu_line.specs.Canonical.{canonical_instruction}
 use Rattle.qpu_line.specs.Lines.{Figure, Decimal, Negative, Hexadecimal, Bit, Word, Number, Comma, Semicolon, Dot, Dash, Space, source_a, source_b, target_bits, suffix, condition_bits, branch_condition_bits, flags_bits, pack_bits, unpack_bits, signed_figure, operand_bits, and_then, behind, part_bits, add_name, mul_name, add_bits, mul_bits, signal_bits, other_bits, units_bits, write_bits, also_bits, load_bits, semaphore_bits, is_nowhere, link_bits, row_bits, branch_bits, line_bits}
 use Rattle.qpu_dis.specs.Tokens.{bit_written, written_by, bits_written, line_written}
-use Rattle.qpu_inverse.proofs.Bits.{written}
+use Rattle.qpu_inverse.proofs.Bits.{symbols_written}
 
 -- at most so many bits
 record Short (n : ℕ) (bits : List Bit) : Type 0 where
@@ -223,12 +223,12 @@ one_bit Dot = omega arith
 one_bit Dash = omega arith
 one_bit Space = omega arith
 
-two_each : (bits : List Bit) → length (written bits) ≤ 2 * length bits
+two_each : (bits : List Bit) → length (symbols_written bits) ≤ 2 * length bits
 two_each [] = omega arith
 two_each (bit ∷ bits) =
     let one = one_bit bit in
     let more = two_each bits in
-    omega (arith, length-append (bit_written bit) (written bits))
+    omega (arith, length-append (bit_written bit) (symbols_written bits))
 
 written_short : (w : ℕ) (o : Option Instruction) → length (written_by w o) ≤ 128
 unfolding bits_written

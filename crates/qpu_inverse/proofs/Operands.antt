@@ -7,10 +7,10 @@ use Rattle.qpu_token.specs.declared.token.Token.{Token}
 use Rattle.qpu_token.specs.Tokens.{text_of}
 use Rattle.qpu_expr.specs.Symbols.{place_of, symbol_of as seen_of, sign_of as sign_seen}
 use Rattle.qpu_expr.specs.Registers.{is_register}
-use Rattle.qpu_expr.specs.Expressions.{outcome_of}
-use Rattle.qpu_expr.specs.Trees.{Tree, number, minus, written as tree_written}
+use Rattle.qpu_expr.specs.Expressions.{parsed_of}
+use Rattle.qpu_expr.specs.Trees.{Tree, number, minus, spelled_out as tree_written}
 use Rattle.qpu_expr.specs.Settings.{expression, item_of, is_unknown}
-use Rattle.qpu_expr.specs.Operands.{is_name, is_dot, core, left, named, operand_of, number_token, Worked, put_operand}
+use Rattle.qpu_expr.specs.Operands.{is_name, is_dot, core, operand_left, named, operand_of, number_token, Worked, put_operand}
 use Rattle.qpu_line.specs.declared.symbol.Symbol.{Symbol}
 use Rattle.qpu_line.specs.declared.symbol.Symbol.TheVariants as symbol
 use Rattle.qpu_line.specs.declared.name.Name.{Name}
@@ -18,7 +18,7 @@ use Rattle.qpu_line.specs.Lines.{Figure, Decimal, Negative, Hexadecimal, Bit, Wo
 use Rattle.qpu_dis.specs.Tokens.{symbol_of}
 use Rattle.qpu_inverse.proofs.Readings.{IsSign, token_of, a_name, a_dot, a_minus}
 use Rattle.qpu_inverse.proofs.Spelling.{Spells}
-use Rattle.qpu_inverse.proofs.Bits.{written, IsFigure, AllInside, BeginsNoDot}
+use Rattle.qpu_inverse.proofs.Bits.{symbols_written, IsFigure, AllInside, BeginsNoDot}
 
 -- tokens that are worked out without a fault
 abbrev pub clean : List Token → Worked
@@ -32,9 +32,9 @@ pub record Puts (text : List ℕ) (ss : List Symbol) (put : Worked → Worked) :
 
 -- bits that are an operand
 pub record IsOperand (text : List ℕ) (bits : List Bit) : Type 0 where
-  pub puts : (ts : List Token) → Spells text (written bits) ts → Puts text (symbols_of bits) (put_operand text [] ts)
-  pub inside : AllInside (written bits)
-  pub no_dot : BeginsNoDot (written bits)
+  pub puts : (ts : List Token) → Spells text (symbols_written bits) ts → Puts text (symbols_of bits) (put_operand text [] ts)
+  pub inside : AllInside (symbols_written bits)
+  pub no_dot : BeginsNoDot (symbols_written bits)
 
 -- nothing
 
@@ -52,11 +52,11 @@ no_operand text = record {
 
 -- a name
 
-named_by : (name : List ℕ) (b : Bool) → is_register name ≡ b → named [] name ≡ left
+named_by : (name : List ℕ) (b : Bool) → is_register name ≡ b → named [] name ≡ operand_left
 named_by name true e = rw e refl
 named_by name false e = rw e refl
 
-name_left : (text : List ℕ) (t : Token) → is_name text t ≡ true → operand_of text [] (t ∷ []) ≡ left
+name_left : (text : List ℕ) (t : Token) → is_name text t ≡ true → operand_of text [] (t ∷ []) ≡ operand_left
 name_left text t name = rw name (named_by (text_of text t) (is_register (text_of text t)) refl)
 
 name_put : (text : List ℕ) (t : Token) (xs : List Token) → is_name text t ≡ true → put_operand text [] (t ∷ []) (clean xs) ≡ clean (xs ++ t ∷ [])
@@ -67,13 +67,13 @@ name_put text t xs name = rw (name_left text t name) refl
 suffixed_core : (text : List ℕ) (t d n : Token) → is_dot text d ≡ true → is_name text n ≡ true → core text (t ∷ d ∷ n ∷ []) ≡ 1
 suffixed_core text t d n dot name = rw (dot, name) refl
 
-suffixed_put : (text : List ℕ) (t d n : Token) (xs : List Token) → is_dot text d ≡ true → is_name text n ≡ true → operand_of text [] (t ∷ []) ≡ left
+suffixed_put : (text : List ℕ) (t d n : Token) (xs : List Token) → is_dot text d ≡ true → is_name text n ≡ true → operand_of text [] (t ∷ []) ≡ operand_left
     → put_operand text [] (t ∷ d ∷ n ∷ []) (clean xs) ≡ clean (xs ++ t ∷ d ∷ n ∷ [])
 unfolding put_operand
 suffixed_put text t d n xs dot name is = rw (suffixed_core text t d n dot name, is) refl
 
 -- no target
-dash_left : (text : List ℕ) (t : Token) → IsSign text 45 t → operand_of text [] (t ∷ []) ≡ left
+dash_left : (text : List ℕ) (t : Token) → IsSign text 45 t → operand_of text [] (t ∷ []) ≡ operand_left
 unfolding expression item_of seen_of sign_seen
 dash_left text t (is, byte) = rw (is, byte) refl
 
@@ -100,15 +100,15 @@ unfolding negative_tree item_of seen_of sign_seen
 minus_item text value m t (is, byte) is_number = rw (is, byte, is_number) refl
 
 negative_outcome : (text : List ℕ) (value : ℕ) (m t : Token) → IsSign text 45 m → t.kind ≡ kind.Number value
-    → outcome_of (map (item_of text []) (m ∷ t ∷ [])) ≡ outcome_of (tree_written (negative_tree value m t))
-negative_outcome text value m t is is_number = ap outcome_of (minus_item text value m t is is_number)
+    → parsed_of (map (item_of text []) (m ∷ t ∷ [])) ≡ parsed_of (tree_written (negative_tree value m t))
+negative_outcome text value m t is is_number = ap parsed_of (minus_item text value m t is is_number)
 
 all_known : (text : List ℕ) (value : ℕ) (m t : Token) → IsSign text 45 m → t.kind ≡ kind.Number value → list_any (is_unknown text []) (m ∷ t ∷ []) ≡ false
 unfolding is_unknown seen_of sign_seen
 all_known text value m t (is, byte) is_number = rw (is, is_number) refl
 
 negative_operand : (text : List ℕ) (value : ℕ) (m t : Token) → IsSign text 45 m → t.kind ≡ kind.Number value
-    → operand_of text [] (m ∷ t ∷ []) ≡ record left { value = Some ((2 ^ 32 - value % 2 ^ 32) % 2 ^ 32) }
+    → operand_of text [] (m ∷ t ∷ []) ≡ record operand_left { value = Some ((2 ^ 32 - value % 2 ^ 32) % 2 ^ 32) }
 unfolding expression negative_tree
 negative_operand text value m t is is_number = rw (negative_outcome text value m t is is_number, all_known text value m t is is_number) refl
 
@@ -130,7 +130,7 @@ named_operand text n = record { puts = one; inside = (tt, tt); no_dot = tt }
     one (t ∷ u ∷ ts) h = absurd h.1
 
 -- what is left before a suffix
-suffixed : (text : List ℕ) (s : Symbol) (n : Name) → ((t : Token) → symbol_of text t ≡ s → operand_of text [] (t ∷ []) ≡ left)
+suffixed : (text : List ℕ) (s : Symbol) (n : Name) → ((t : Token) → symbol_of text t ≡ s → operand_of text [] (t ∷ []) ≡ operand_left)
     → (ts : List Token) → Spells text (s ∷ symbol.Dot ∷ symbol.Name n ∷ []) ts → Puts text (s ∷ symbol.Dot ∷ symbol.Name n ∷ []) (put_operand text [] ts)
 suffixed text s n is_left [] h = absurd h
 suffixed text s n is_left (t ∷ []) h = absurd h.1

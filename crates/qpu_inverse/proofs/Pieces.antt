@@ -12,7 +12,7 @@ use Rattle.qpu_line.specs.Lines.{Bit, Comma, Semicolon, Space, symbols_of}
 use Rattle.qpu_dis.specs.Tokens.{symbol_of}
 use Rattle.qpu_inverse.proofs.Readings.{IsSign, token_of, inside, a_name}
 use Rattle.qpu_inverse.proofs.Spelling.{Spells, parts_of, spells_both}
-use Rattle.qpu_inverse.proofs.Bits.{written, written_append, symbols_append, AllInside}
+use Rattle.qpu_inverse.proofs.Bits.{symbols_written, written_append, symbols_append, AllInside}
 use Rattle.qpu_inverse.proofs.Operands.{clean, Puts, IsOperand}
 
 -- how tokens stand: as the beginning of a part, or as an operand behind a sign `,`. The second is told by
@@ -38,9 +38,9 @@ BeginsName (symbol.Name n ∷ ss) = Unit {0}
 BeginsName _ = ⊥
 
 pub record IsPiece (text : List ℕ) (first : Bool) (bits : List Bit) : Type 0 where
-  pub puts : (w : Working) → Stands first w → (ts : List Token) → Spells text (written bits) ts → Puts text (symbols_of bits) (put_piece text [] w.standing ts)
-  pub inside : AllInside (written bits)
-  pub begins : first ≡ true → BeginsName (written bits)
+  pub puts : (w : Working) → Stands first w → (ts : List Token) → Spells text (symbols_written bits) ts → Puts text (symbols_of bits) (put_piece text [] w.standing ts)
+  pub inside : AllInside (symbols_written bits)
+  pub begins : first ≡ true → BeginsName (symbols_written bits)
 
 -- an operand behind a sign `,`
 pub later_piece : (text : List ℕ) (bits : List Bit) → IsOperand text bits → IsPiece text false bits
@@ -77,7 +77,7 @@ pub record Ended (text : List ℕ) (ss : List Symbol) (xs : List Token) (r : Wor
   pub is : r ≡ clean (xs ++ tokens)
 
 pub record Works (text : List ℕ) (first : Bool) (bits : List Bit) : Type 0 where
-  pub works : (w : Working) → Stands first w → (xs ts : List Token) → Spells text (written bits) ts
+  pub works : (w : Working) → Stands first w → (xs ts : List Token) → Spells text (symbols_written bits) ts
       → Ended text (symbols_of bits) xs (all_worked text [] (fold (worked_on text []) (start w xs) ts))
 
 -- the last piece of a line
@@ -88,7 +88,7 @@ last_piece text first bits p = record {
       record {
         tokens = put.tokens;
         spells = put.spells;
-        is = ap (all_worked text []) (gathered text (start w xs) (written bits) ts p.inside h) ∙ put.puts xs;
+        is = ap (all_worked text []) (gathered text (start w xs) (symbols_written bits) ts p.inside h) ∙ put.puts xs;
       };
 }
 
@@ -162,20 +162,20 @@ stands_so false w piece done h = h
 -- a piece, a sign, and what works behind it
 separated : (text : List ℕ) (first later : Bool) (s : Symbol) (bits rest : List Bit) (next : Working) → IsPiece text first bits → Works text later rest → Stands later next
     → ((w : Working) (t : Token) → Stands first w → (first ≡ true → begins_with_name text w.piece ≡ true) → symbol_of text t ≡ s → worked_on text [] w t ≡ turned text w next t)
-    → (w : Working) → Stands first w → (xs ts : List Token) → Spells text (written bits ++ s ∷ written rest) ts
+    → (w : Working) → Stands first w → (xs ts : List Token) → Spells text (symbols_written bits ++ s ∷ symbols_written rest) ts
     → Ended text (symbols_of bits ++ s ∷ symbols_of rest) xs (all_worked text [] (fold (worked_on text []) (start w xs) ts))
 separated text first later s bits rest next piece works due step w stands xs ts h =
-    let p = split text (written bits) s (written rest) ts h in
+    let p = split text (symbols_written bits) s (symbols_written rest) ts h in
     let mid : Working = record { standing = w.standing; piece = p.front; done = clean xs } in
     let put = piece.puts w stands p.front p.front_spells in
     subst (λ z. Ended text (symbols_of bits ++ s ∷ symbols_of rest) xs (all_worked text [] (fold (worked_on text []) (start w xs) z))) (sym p.same)
     (joined text s w next xs p.front p.back p.sign (symbols_of bits) (symbols_of rest) put
-    (gathered text (start w xs) (written bits) p.front piece.inside p.front_spells) p.sign_is
-    (step mid p.sign (stands_so first w p.front (clean xs) stands) (λ e. begins_name text (written bits) p.front (piece.begins e) p.front_spells) p.sign_is)
+    (gathered text (start w xs) (symbols_written bits) p.front piece.inside p.front_spells) p.sign_is
+    (step mid p.sign (stands_so first w p.front (clean xs) stands) (λ e. begins_name text (symbols_written bits) p.front (piece.begins e) p.front_spells) p.sign_is)
     (works.works next due (xs ++ put.tokens ++ p.sign ∷ []) p.back p.back_spells))
 
-works_again : (text : List ℕ) (first : Bool) (s : Symbol) (a b bits : List Bit) → written bits ≡ written a ++ s ∷ written b → symbols_of bits ≡ symbols_of a ++ s ∷ symbols_of b
-    → ((w : Working) → Stands first w → (xs ts : List Token) → Spells text (written a ++ s ∷ written b) ts
+works_again : (text : List ℕ) (first : Bool) (s : Symbol) (a b bits : List Bit) → symbols_written bits ≡ symbols_written a ++ s ∷ symbols_written b → symbols_of bits ≡ symbols_of a ++ s ∷ symbols_of b
+    → ((w : Working) → Stands first w → (xs ts : List Token) → Spells text (symbols_written a ++ s ∷ symbols_written b) ts
     → Ended text (symbols_of a ++ s ∷ symbols_of b) xs (all_worked text [] (fold (worked_on text []) (start w xs) ts)))
     → Works text first bits
 works_again text first s a b bits as_written as_symbols h = record {

@@ -7,12 +7,12 @@ use Rattle.qpu_token.specs.declared.token.Token.{Token}
 use Rattle.qpu_expr.specs.declared.limits.TheConstants.{MOST_WORDS}
 use Rattle.qpu_expr.specs.LineTokens.{LineTokens}
 use Rattle.qpu_expr.specs.StageParts.{Stage}
-use Rattle.qpu_expr.specs.Operands.{is_name, is_dot, nothing_read, instruction as worked_out}
+use Rattle.qpu_expr.specs.Operands.{is_name, is_dot, nothing_read, instruction_work as worked_out}
 use Rattle.qpu_expr.specs.Calls.{text_deed, instruction_deed}
 use Rattle.qpu_expr.specs.Lines.{lines_of, is_colon, directive, head_of}
 use Rattle.qpu_expr.specs.Stage.{too_long}
 use Rattle.qpu_expr.specs.Deeds.{line_does, done_by}
-use Rattle.qpu_expr.specs.Expansion.{Outcome, then, left_of, lines_run, run_within, expansion}
+use Rattle.qpu_expr.specs.Expansion.{RunResult, then, left_of, lines_run, run_within, expansion}
 use Rattle.qpu_line.specs.declared.part.Part.{Part}
 use Rattle.qpu_line.specs.declared.instruction.Instruction.{Instruction}
 use Rattle.qpu_line.specs.declared.instruction.Instruction.TheVariants as instruction
@@ -26,7 +26,7 @@ use Rattle.qpu_line.proofs.EachLaw.{each_named}
 use Rattle.qpu_dis.specs.Tokens.{bits_written, written_by, line_written, lines_written}
 use Rattle.qpu_inverse.proofs.Readings.{token_of, Looks, a_name, a_dot}
 use Rattle.qpu_inverse.proofs.Spelling.{Spells, spells_length}
-use Rattle.qpu_inverse.proofs.Bits.{written, AllUsed, bits_used}
+use Rattle.qpu_inverse.proofs.Bits.{symbols_written, AllUsed, bits_used}
 use Rattle.qpu_inverse.proofs.Lines.{IsLineOf, AreLines, AllLinesUsed, text_lines}
 use Rattle.qpu_inverse.proofs.Operands.{clean}
 use Rattle.qpu_inverse.proofs.Pieces.{BeginsName, Ended, Works}
@@ -48,7 +48,7 @@ short_enough ls n k line few small =
     rw (lines, words, slice_get_past line.tokens (1048576 - n) small) refl
 
 -- a line of an instruction
-instruction_line : (text : List ℕ) (run : List LineTokens → Stage → Outcome) (t end : Token) (ts out : List Token) (lines : List LineTokens) (ls : List (List Token)) (n k : ℕ)
+instruction_line : (text : List ℕ) (run : List LineTokens → Stage → RunResult) (t end : Token) (ts out : List Token) (lines : List LineTokens) (ls : List (List Token)) (n k : ℕ)
     → is_name text t ≡ true → is_dot text t ≡ false → is_colon text t ≡ false → worked_out text [] (t ∷ ts) ≡ clean out
     → too_long (stage ls n k) (record { tokens = t ∷ ts; end = end }) true ≡ None
     → lines_run text run false 0 (record { tokens = t ∷ ts; end = end } ∷ lines) (stage ls n k)
@@ -57,7 +57,7 @@ unfolding line_does head_of text_deed instruction_deed done_by
 instruction_line text run t end ts out lines ls n k name dot colon works long = rw (no_label text t ts colon, dot, colon, name, works, long, no_label text t ts colon) refl
 
 -- a line of a word
-word_line : (text : List ℕ) (run : List LineTokens → Stage → Outcome) (t end : Token) (ts : List Token) (lines : List LineTokens) (ls : List (List Token)) (n k : ℕ)
+word_line : (text : List ℕ) (run : List LineTokens → Stage → RunResult) (t end : Token) (ts : List Token) (lines : List LineTokens) (ls : List (List Token)) (n k : ℕ)
     → is_colon text t ≡ false → head_of text (t ∷ ts) ≡ directive [] []
     → too_long (stage ls n k) (record { tokens = t ∷ ts; end = end }) true ≡ None
     → lines_run text run false 0 (record { tokens = t ∷ ts; end = end } ∷ lines) (stage ls n k)
@@ -68,17 +68,17 @@ word_line text run t end ts lines ls n k colon head long = rw (no_label text t t
 -- the same by the lines' symbols
 
 -- a line is left with such symbols, and the lines behind it are run
-record Stepped (text : List ℕ) (run : List LineTokens → Stage → Outcome) (ss : List Symbol) (line : LineTokens) (lines : List LineTokens) (ls : List (List Token)) (n k : ℕ) : Type 0 where
+record Stepped (text : List ℕ) (run : List LineTokens → Stage → RunResult) (ss : List Symbol) (line : LineTokens) (lines : List LineTokens) (ls : List (List Token)) (n k : ℕ) : Type 0 where
   out : List Token
   spells : Spells text ss out
   runs : lines_run text run false 0 (line ∷ lines) (stage ls n k) ≡ lines_run text run false 0 lines (stage (ls ++ (out ++ line.end ∷ []) ∷ []) (n + length line.tokens) (k + 1))
 
 -- the line of an instruction begins with a name
-line_begins : (i : Instruction) → BeginsName (written (line_bits i))
+line_begins : (i : Instruction) → BeginsName (symbols_written (line_bits i))
 unfolding line_bits units_bits load_bits semaphore_bits branch_bits
 line_begins (instruction.Both u) = by_add u.add
   where
-    by_add : (o : Option Part) → BeginsName (written (add_bits u.sets o ++ mul_bits (u.sets && not (is_some o)) u.mul ++ signal_bits u.signal ++ other_bits name.ReadA source_a u.other_a ++ other_bits name.ReadB source_b u.other_b))
+    by_add : (o : Option Part) → BeginsName (symbols_written (add_bits u.sets o ++ mul_bits (u.sets && not (is_some o)) u.mul ++ signal_bits u.signal ++ other_bits name.ReadA source_a u.other_a ++ other_bits name.ReadB source_b u.other_b))
     by_add None = tt
     by_add (Some p) = tt
 line_begins (instruction.Load l) = tt
@@ -93,16 +93,16 @@ no_tokens : (text : List ℕ) (ss : List Symbol) → BeginsName ss → Spells te
 no_tokens text (symbol.Name n ∷ ss) begins h = h
 no_tokens text _ begins h = absurd begins
 
-worked : (text : List ℕ) (bits : List Bit) (tokens : List Token) → Works text true bits → Spells text (written bits) tokens → Ended text (symbols_of bits) [] (worked_out text [] tokens)
+worked : (text : List ℕ) (bits : List Bit) (tokens : List Token) → Works text true bits → Spells text (symbols_written bits) tokens → Ended text (symbols_of bits) [] (worked_out text [] tokens)
 unfolding worked_out
 worked text bits tokens works h = works.works nothing_read refl [] tokens h
 
-instruction_step : (text : List ℕ) (run : List LineTokens → Stage → Outcome) (i : Instruction) (tokens : List Token) (end : Token) (lines : List LineTokens) (ls : List (List Token)) (n k : ℕ)
-    → HasWord i → Spells text (written (line_bits i)) tokens → too_long (stage ls n k) (record { tokens = tokens; end = end }) true ≡ None
+instruction_step : (text : List ℕ) (run : List LineTokens → Stage → RunResult) (i : Instruction) (tokens : List Token) (end : Token) (lines : List LineTokens) (ls : List (List Token)) (n k : ℕ)
+    → HasWord i → Spells text (symbols_written (line_bits i)) tokens → too_long (stage ls n k) (record { tokens = tokens; end = end }) true ≡ None
     → Stepped text run (line_symbols i) (record { tokens = tokens; end = end }) lines ls n k
-instruction_step text run i [] end lines ls n k has h long = absurd (no_tokens text (written (line_bits i)) (line_begins i) h)
+instruction_step text run i [] end lines ls n k has h long = absurd (no_tokens text (symbols_written (line_bits i)) (line_begins i) h)
 instruction_step text run i (t ∷ ts) end lines ls n k has h long =
-    let looks = first_name text (written (line_bits i)) t ts (line_begins i) h in
+    let looks = first_name text (symbols_written (line_bits i)) t ts (line_begins i) h in
     let done = worked text (line_bits i) (t ∷ ts) (line_works text (line_bits i) (line_section text i has)) h in
     record {
       out = done.tokens;
@@ -110,7 +110,7 @@ instruction_step text run i (t ∷ ts) end lines ls n k has h long =
       runs = instruction_line text run t end ts done.tokens lines ls n k looks.name_is looks.dot_is looks.colon_is done.is long;
     }
 
-word_step : (text : List ℕ) (run : List LineTokens → Stage → Outcome) (w : ℕ) (tokens : List Token) (end : Token) (lines : List LineTokens) (ls : List (List Token)) (n k : ℕ)
+word_step : (text : List ℕ) (run : List LineTokens → Stage → RunResult) (w : ℕ) (tokens : List Token) (end : Token) (lines : List LineTokens) (ls : List (List Token)) (n k : ℕ)
     → Spells text (symbol.Dot ∷ symbol.Name name.Word ∷ symbol.Number w ∷ []) tokens → too_long (stage ls n k) (record { tokens = tokens; end = end }) true ≡ None
     → Stepped text run (symbol.Dot ∷ symbol.Name name.Word ∷ symbol.Number w ∷ []) (record { tokens = tokens; end = end }) lines ls n k
 word_step text run w [] end lines ls n k h long = absurd h
@@ -129,7 +129,7 @@ abbrev pub worked_by : ℕ → Option Instruction → List Symbol
 worked_by w None = symbol.Dot ∷ symbol.Name name.Word ∷ symbol.Number w ∷ []
 worked_by w (Some i) = line_symbols i
 
-step_by : (text : List ℕ) (run : List LineTokens → Stage → Outcome) (w : ℕ) (o : Option Instruction) (line : LineTokens) (lines : List LineTokens) (ls : List (List Token)) (n k : ℕ)
+step_by : (text : List ℕ) (run : List LineTokens → Stage → RunResult) (w : ℕ) (o : Option Instruction) (line : LineTokens) (lines : List LineTokens) (ls : List (List Token)) (n k : ℕ)
     → canonical_instruction w ≡ o → Spells text (written_by w o) line.tokens → too_long (stage ls n k) line true ≡ None
     → Stepped text run (worked_by w o) line lines ls n k
 unfolding bits_written
@@ -150,12 +150,12 @@ AreOuts text [] (out ∷ outs) = ⊥
 AreOuts text (w ∷ words) [] = ⊥
 AreOuts text (w ∷ words) (out ∷ outs) = IsOut text w out × AreOuts text words outs
 
-record Ran (text : List ℕ) (words : List ℕ) (ls : List (List Token)) (r : Outcome) : Type 0 where
+record Ran (text : List ℕ) (words : List ℕ) (ls : List (List Token)) (r : RunResult) : Type 0 where
   outs : List (List Token)
   are : AreOuts text words outs
   left : then r (λ s. Ok (left_of s)) ≡ Ok (record { lines = ls ++ outs; labels = [] })
 
-ran_on : (text : List ℕ) (w : ℕ) (words : List ℕ) (ls : List (List Token)) (out : List Token) (r : Outcome) → IsOut text w out → Ran text words (ls ++ out ∷ []) r → Ran text (w ∷ words) ls r
+ran_on : (text : List ℕ) (w : ℕ) (words : List ℕ) (ls : List (List Token)) (out : List Token) (r : RunResult) → IsOut text w out → Ran text words (ls ++ out ∷ []) r → Ran text (w ∷ words) ls r
 ran_on text w words ls out r is p = record {
   outs = out ∷ p.outs;
   are = (is, p.are);
@@ -172,7 +172,7 @@ spelled_by : (text : List ℕ) (w : ℕ) (line : LineTokens) → IsLineOf text (
 unfolding line_written
 spelled_by text w line is = is.spells
 
-lines_ran : (text : List ℕ) (run : List LineTokens → Stage → Outcome) (words : List ℕ) (lines : List LineTokens) (ls : List (List Token)) (n k : ℕ)
+lines_ran : (text : List ℕ) (run : List LineTokens → Stage → RunResult) (words : List ℕ) (lines : List LineTokens) (ls : List (List Token)) (n k : ℕ)
     → AreLines text words lines → k + length words ≤ MOST_WORDS → n ≤ 128 * k → Ran text words ls (lines_run text run false 0 lines (stage ls n k))
 lines_ran text run [] [] ls n k are few small =
     record { outs = []; are = tt; left = ap (λ z. Ok (record { lines = z; labels = [] })) (sym (append-nil ls)) }

@@ -10,9 +10,9 @@ use Rattle.qpu_line.specs.declared.symbol.Symbol.{Symbol}
 use Rattle.qpu_line.specs.Canonical.{canonical_instruction}
 use Rattle.qpu_line.proofs.EachLaw.{each_named}
 use Rattle.qpu_line.proofs.WordLaw.{word_back}
-use Rattle.qpu_asm.specs.Placed.{Labels, placed}
+use Rattle.qpu_asm.specs.Placed.{Labels, placed_token}
 use Rattle.qpu_asm.specs.Laws.{symbols_of}
-use Rattle.qpu_asm.specs.Assembly.{and_then, end_of, line_at, word_behind, words_of_lines}
+use Rattle.qpu_asm.specs.Assembly.{and_then, closing_token, line_at, word_behind, words_of_lines}
 use Rattle.qpu_asm.proofs.AgainLaw.{canonical_read}
 use Rattle.qpu_asm.proofs.RawLaw.{raw_law}
 use Rattle.qpu_inverse.proofs.Spelling.{Spells}
@@ -25,8 +25,8 @@ without_end ts end =
     let size : length (ts ++ end ∷ []) - 1 ≡ length ts = omega (arith, length-append ts (end ∷ [])) in
     ap (λ z. take z (ts ++ end ∷ [])) size ∙ take-append_seam ts (end ∷ [])
 
-placed_as : (text : List ℕ) (labels : Labels) (ss : List Symbol) (ts : List Token) → Spells text ss ts → symbols_of (map (placed text labels) ts) ≡ ss
-unfolding placed
+placed_as : (text : List ℕ) (labels : Labels) (ss : List Symbol) (ts : List Token) → Spells text ss ts → symbols_of (map (placed_token text labels) ts) ≡ ss
+unfolding placed_token
 placed_as text labels [] [] h = refl
 placed_as text labels [] (t ∷ ts) h = absurd h
 placed_as text labels (s ∷ ss) [] h = absurd h
@@ -40,11 +40,11 @@ line_word : (text : List ℕ) (labels : Labels) (w : ℕ) (o : Option Instructio
     → Spells text (worked_by w o) ts → word_behind text labels (ts ++ end ∷ []) words ≡ Ok (words ++ w ∷ [])
 unfolding line_at
 line_word text labels w None ts end words low is h =
-    rw (without_end ts end, (raw_law (length words) (end_of (ts ++ end ∷ [])) (map (placed text labels) ts) w).1 (placed_as text labels (worked_by w None) ts h)) refl
+    rw (without_end ts end, (raw_law (length words) (closing_token (ts ++ end ∷ [])) (map (placed_token text labels) ts) w).1 (placed_as text labels (worked_by w None) ts h)) refl
 line_word text labels w (Some i) ts end words low is h =
     rw (
       without_end ts end,
-      canonical_read (length words) (end_of (ts ++ end ∷ [])) (map (placed text labels) ts) i (each_named w i is) (placed_as text labels (worked_by w (Some i)) ts h),
+      canonical_read (length words) (closing_token (ts ++ end ∷ [])) (map (placed_token text labels) ts) i (each_named w i is) (placed_as text labels (worked_by w (Some i)) ts h),
       word_back w i low is,
     )
     refl

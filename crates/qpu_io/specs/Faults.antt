@@ -8,5 +8,5 @@ pub record Rose (old new : ℕ) : Type 0 where
   pub rose : (old < new) ⊎ (new ≡ 2 ^ 64 - 1)
 
 -- a count of 64 bits after one more: it stands at its last value
-abbrev pub counted : ℕ → ℕ
-counted n = min (n + 1) (2 ^ 64 - 1)
+abbrev pub count_up : ℕ → ℕ
+count_up n = min (n + 1) (2 ^ 64 - 1)

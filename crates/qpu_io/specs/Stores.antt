@@ -1,6 +1,6 @@
 -- What contracts see of the sources and sinks in memory.
 use Rattle.std.specs.Prelude.{ℕ, ◌-◌, List, ◌++◌, take, drop, Some}
-use Rattle.qpu_io.specs.Faults.{counted}
+use Rattle.qpu_io.specs.Faults.{count_up}
 use Rattle.qpu_io.specs.Input.{Input}
 use Rattle.qpu_io.specs.Output.{Output}
 
@@ -43,11 +43,11 @@ store_shown store = record { held = Some store.bytes; faults = store.faults }
 
 -- a source in memory after a read of n bytes
 abbrev pub stock_read : Stock → ℕ → Stock
-stock_read old n = record old { left = drop n old.left; calls = counted old.calls }
+stock_read old n = record old { left = drop n old.left; calls = count_up old.calls }
 
 -- a source in memory after a read that failed
 abbrev pub stock_failed : Stock → Stock
-stock_failed old = record old { calls = counted old.calls; faults = counted old.faults }
+stock_failed old = record old { calls = count_up old.calls; faults = count_up old.faults }
 
 -- a plain sink after a write of the first n bytes of a piece
 abbrev pub shelf_written : Shelf → List ℕ → ℕ → Shelf
@@ -55,16 +55,16 @@ shelf_written old piece n = record old { bytes = old.bytes ++ take n piece; spar
 
 -- a plain sink after a write that failed
 abbrev pub shelf_failed : Shelf → Shelf
-shelf_failed old = record old { faults = counted old.faults }
+shelf_failed old = record old { faults = count_up old.faults }
 
 -- a sink in memory after a write of the first n bytes of a piece
 abbrev pub store_written : Store → List ℕ → ℕ → Store
 store_written old piece n = record old {
   bytes = old.bytes ++ take n piece;
   spare = old.spare - n;
-  calls = counted old.calls;
+  calls = count_up old.calls;
 }
 
 -- a sink in memory after a write that failed
 abbrev pub store_failed : Store → Store
-store_failed old = record old { calls = counted old.calls; faults = counted old.faults }
+store_failed old = record old { calls = count_up old.calls; faults = count_up old.faults }

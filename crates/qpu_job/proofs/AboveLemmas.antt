@@ -7,16 +7,16 @@ use Rattle.std.proofs.lemmas.Bool.Decides.{nat_tests}
 use Rattle.std.proofs.lemmas.List.{drop_all, length-map}
 use Rattle.qpu_word.proofs.ProfileLemmas.{every_row}
 use Rattle.qpu_job.specs.declared.job.Value.{Value}
-use Rattle.qpu_job.specs.declared.above.TheConstants.{WORD_BYTES}
+use Rattle.qpu_word.specs.declared.code.TheConstants.{WORD_BYTES}
 use Rattle.qpu_job.specs.declared.job.ProgramText.{ProgramText}
 use Rattle.qpu_job.specs.declared.fault.JobFault.{JobFault}
 use Rattle.qpu_job.specs.declared.above.Above.{Above as Held}
-use Rattle.qpu_job.specs.declared.cause.Cause.TheVariants as cause
+use Rattle.qpu_job.specs.declared.reason.Reason.TheVariants as cause
 use Rattle.qpu_job.specs.Shapes.{Data}
 use Rattle.qpu_job.specs.Above.{Above, above_of, values_from}
 use Rattle.qpu_job.specs.Plan.{program_of}
-use Rattle.qpu_job.specs.Reading.{after_inside, after_line, Goes}
-use Rattle.qpu_job.specs.Faults.{first_cause, has_fault, all_causes, is_no_place}
+use Rattle.qpu_job.specs.Reading.{after_inside, after_line, GoesOn}
+use Rattle.qpu_job.specs.Faults.{first_reason, has_reason, all_causes, is_no_place}
 
 prefix_map : {A B : Type 0} (f : A → B) (p : B → Bool) (xs : List A) → position_or_len p (map f xs) ≡ position_or_len (λ x. p (f x)) xs
 prefix_map f p [] = refl
@@ -49,14 +49,14 @@ place_by : (address : ℕ) (values : List ℕ) (above : Above) → is_no_place a
 unfolding is_no_place
 place_by address values above h = grind (arith, nat_tests)
 
-pub place_fits : (address : ℕ) (values : List ℕ) (above : Above) → first_cause above (Data address values) ≡ None → address / WORD_BYTES + length values ≤ above.plan.words
-unfolding first_cause
+pub place_fits : (address : ℕ) (values : List ℕ) (above : Above) → first_reason above (Data address values) ≡ None → address / WORD_BYTES + length values ≤ above.plan.words
+unfolding first_reason
 place_fits address values above h =
-    place_by address values above (every_row (has_fault above (Data address values)) all_causes h 6 cause.Place (omega arith))
+    place_by address values above (every_row (has_reason above (Data address values)) all_causes h 6 cause.Place (omega arith))
 
 -- a line inside a program, whose text stands apart
 pub line_inside : (held : Held) (program : ProgramText) (left : Option ProgramText) (next : Above) (r : Result (Unit {0}) JobFault) (number : ℕ) (line : List ℕ)
     → Some program ≡ held.inside → left ≡ None
-    → Goes next r (after_inside (program_of program) (above_of (record held { inside = left })) line) → Goes next r (after_line number (above_of held) line)
+    → GoesOn next r (after_inside (program_of program) (above_of (record held { inside = left })) line) → GoesOn next r (after_line number (above_of held) line)
 unfolding after_inside
 line_inside held program left next r number line is none h = rw (← is) h

@@ -3,7 +3,8 @@ use Rattle.std.proofs.Common.{◌≡◌, ℕ, ◌+◌, ◌<◌, ◌≤◌, All, 
 use Rattle.std.specs.List.{AllWithin}
 use Rattle.std.proofs.lemmas.List.{get_or-map, length-map, take_more}
 use Rattle.std.proofs.lemmas.List.Elements.{AllWithin-more}
-use Rattle.qpu_flow.specs.Code.{numbers_of, AllInProfile}
+use Rattle.qpu_word.specs.Words.{numbers_of}
+use Rattle.qpu_flow.specs.Code.{AllInProfile}
 use Rattle.qpu_flow.proofs.CodeLemmas.{length_numbers}
 use Rattle.qpu_hazard.specs.declared.checked.CheckFault.TheVariants as check
 use Rattle.qpu_hazard.specs.Refusal.{NoneRefusable}

@@ -10,18 +10,18 @@ use Rattle.std.proofs.lemmas.List.{length-drop, take-append-drop, nil_from_lengt
 use Rattle.std.proofs.lemmas.List.Sums.{passes_at_first}
 use Rattle.qpu_token.specs.Words.{is_blank}
 use Rattle.qpu_job.specs.declared.fault.JobFault.{JobFault}
-use Rattle.qpu_job.specs.declared.cause.Cause.{Cause}
+use Rattle.qpu_job.specs.declared.reason.Reason.{Reason}
 use Rattle.qpu_job.specs.Lines.{LF, CR, is_lf, lines, content}
-use Rattle.qpu_job.specs.Words.{is_hash, is_some_word, before_comment, words_between, words_of}
+use Rattle.qpu_job.specs.Words.{is_hash, is_some_word, before_comment, words_between, line_words}
 use Rattle.qpu_job.specs.Shapes.{Shape, shape_of}
 use Rattle.qpu_job.specs.Plan.{Plan, Program}
 use Rattle.qpu_job.specs.Above.{Above, at_first, above_next, with_line, with_program}
-use Rattle.qpu_job.specs.Faults.{first_cause}
+use Rattle.qpu_job.specs.Faults.{first_reason}
 use Rattle.qpu_job.specs.Reading.{is_end, is_limited, and_then, unless_fault, after_shape, after_outside, after_inside, after_line_in, after_line, at_end, read_lines, job_of}
 use Rattle.qpu_job.specs.Grammar.{Lacks, Words, nothing, blank, last, followed, Comment, none, some, Says, ends_in_cr, IsLine, by_lf, by_cr_lf, by_none, Asks, ends, says, tells, closes, ReadsJobsAlone}
 use Rattle.qpu_job.proofs.WordLemmas.{at_first as found_at, none_first, words_first, words_last}
 use Rattle.qpu_job.proofs.LineLemmas.{lines_first, lines_last, lines_none}
-use Rattle.qpu_job.proofs.LineKeeps.{by_end, end_of, limited}
+use Rattle.qpu_job.proofs.LineKeeps.{by_end, job_end, limited}
 use Rattle.qpu_job.proofs.GrammarLemmas.{content_only}
 
 -- what stands before the first byte that passes
@@ -104,7 +104,7 @@ comment_found : (text : List ℕ) → Comment (drop (position_or_len is_hash tex
 comment_found [] = none
 comment_found (byte ∷ text) = comment_by byte text (is_hash byte) refl (comment_found text)
 
-says_found : (body : List ℕ) → Says body (words_of body)
+says_found : (body : List ℕ) → Says body (line_words body)
 says_found body = record {
   bare = before_comment body;
   comment = drop (position_or_len is_hash body) body;
@@ -198,8 +198,8 @@ nothing_left (byte ∷ text) h = absurd (nothing_by byte text (position is_lf (b
 
 -- one line
 
-asks_shape : (number : ℕ) (above next : Above) (line body rest : List ℕ) (words : List (List ℕ)) (shape : Shape) (c : Option Cause) (plan : Plan) → above.inside ≡ None → IsLine body line rest
-    → Says body words → shape_of words ≡ Some shape → first_cause above shape ≡ c → unless_fault number above shape c ≡ Ok next → Asks (number + 1) next rest plan → Asks number above (line ++ rest) plan
+asks_shape : (number : ℕ) (above next : Above) (line body rest : List ℕ) (words : List (List ℕ)) (shape : Shape) (c : Option Reason) (plan : Plan) → above.inside ≡ None → IsLine body line rest
+    → Says body words → shape_of words ≡ Some shape → first_reason above shape ≡ c → unless_fault number above shape c ≡ Ok next → Asks (number + 1) next rest plan → Asks number above (line ++ rest) plan
 asks_shape number above next line body rest words shape None plan inside is said shape_is fits e h =
     let same : above_next number above shape ≡ next = cc in
     says above line body words shape inside is said shape_is fits (subst (λ (a : Above). Asks (number + 1) a rest plan) (sym same) h)
@@ -210,14 +210,14 @@ asks_words : (number : ℕ) (above next : Above) (line body rest : List ℕ) (wo
 unfolding after_shape
 asks_words number above next line body rest words None plan inside is said shape_is e h = absurd (cc)
 asks_words number above next line body rest words (Some shape) plan inside is said shape_is e h =
-    asks_shape number above next line body rest words shape (first_cause above shape) plan inside is said shape_is refl e h
+    asks_shape number above next line body rest words shape (first_reason above shape) plan inside is said shape_is refl e h
 
 asks_outside : (number : ℕ) (above next : Above) (line body rest : List ℕ) (plan : Plan) → above.inside ≡ None → IsLine body line rest → after_outside number above line ≡ Ok next
     → Asks (number + 1) next rest plan → Asks number above (line ++ rest) plan
 unfolding after_outside
 asks_outside number above next line body rest plan inside is e h =
-    let due : after_shape number above (shape_of (words_of body)) ≡ Ok next = rw (content_only line rest is) at e in
-    asks_words number above next line body rest (words_of body) (shape_of (words_of body)) plan inside is (says_found body) refl due h
+    let due : after_shape number above (shape_of (line_words body)) ≡ Ok next = rw (content_only line rest is) at e in
+    asks_words number above next line body rest (line_words body) (shape_of (line_words body)) plan inside is (says_found body) refl due h
 
 is_the_end : (line body : List ℕ) → content line ≡ body → is_end line ≡ true → body ≡ codes "endprogram"
 is_the_end line body content_is end = (bytes_eq-Decides body (codes "endprogram")).0 (rw content_is at end)
@@ -251,7 +251,7 @@ no_program : {A : Type 0} (o : Option A) → is_none o ≡ true → o ≡ None
 no_program None h = refl
 no_program (Some a) h = absurd (cc)
 
-asks_end : (number : ℕ) (above : Above) (plan : Plan) (ended : Bool) → (is_limited above.stage && is_none above.inside) ≡ ended → end_of number above ended ≡ Ok plan → Asks number above [] plan
+asks_end : (number : ℕ) (above : Above) (plan : Plan) (ended : Bool) → (is_limited above.stage && is_none above.inside) ≡ ended → job_end number above ended ≡ Ok plan → Asks number above [] plan
 asks_end number above plan true is e =
     let parts = and_parts (is_limited above.stage) (is_none above.inside) is in
     let same : above.plan ≡ plan = cc in

@@ -8,7 +8,7 @@ use Rattle.std.proofs.lemmas.List.{length-append}
 use Rattle.std.proofs.lemmas.List.Splits.{slice_split-cons_yes, slice_split_none, slice_split_at}
 use Rattle.qpu_token.specs.Words.{is_blank}
 use Rattle.qpu_job.specs.Lines.{LF, CR, is_lf, lines, without_last, content}
-use Rattle.qpu_job.specs.Words.{is_hash, is_some_word, before_comment, words_between, words_of}
+use Rattle.qpu_job.specs.Words.{is_hash, is_some_word, before_comment, words_between, line_words}
 use Rattle.qpu_job.specs.Grammar.{Lacks, Words, nothing, blank, last, followed, Comment, none, some, Says, IsLine, by_lf, by_cr_lf, by_none}
 use Rattle.qpu_job.proofs.LineLemmas.{lines_none}
 use Rattle.qpu_job.proofs.KeptLemmas.{any_push}
@@ -53,7 +53,7 @@ take_front : (xs ys : List ℕ) → take (length xs) (xs ++ ys) ≡ xs
 take_front [] ys = refl
 take_front (x ∷ xs) ys = ap (λ (zs : List ℕ). x ∷ zs) (take_front xs ys)
 
-pub says_only : (body : List ℕ) (words : List (List ℕ)) → Says body words → words_of body ≡ words
+pub says_only : (body : List ℕ) (words : List (List ℕ)) → Says body words → line_words body ≡ words
 says_only body words s =
     let place = before_it s.bare s.comment s.no_hash s.is_comment in
     let front : before_comment (s.bare ++ s.comment) ≡ s.bare = rw place (take_front s.bare s.comment) in

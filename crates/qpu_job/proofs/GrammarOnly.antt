@@ -5,11 +5,11 @@ use Rattle.std.proofs.lemmas.Slice.Eq.{bytes_eq-Decides}
 use Rattle.std.proofs.lemmas.Bool.{false_from_ne_true}
 use Rattle.qpu_job.specs.declared.stage.Stage.TheVariants.{Limited}
 use Rattle.qpu_job.specs.Lines.{lines, content}
-use Rattle.qpu_job.specs.Words.{words_of}
+use Rattle.qpu_job.specs.Words.{line_words}
 use Rattle.qpu_job.specs.Shapes.{Shape, shape_of}
 use Rattle.qpu_job.specs.Plan.{Plan, Program}
 use Rattle.qpu_job.specs.Above.{Above, above_next, with_line, with_program}
-use Rattle.qpu_job.specs.Faults.{first_cause}
+use Rattle.qpu_job.specs.Faults.{first_reason}
 use Rattle.qpu_job.specs.Reading.{is_end, after_shape, after_outside, after_inside, after_line_in, after_line, at_end, read_lines, job_of}
 use Rattle.qpu_job.specs.Grammar.{Asks, ends, says, tells, closes, ReadsEveryJob}
 use Rattle.qpu_job.proofs.LineLemmas.{lines_none}
@@ -24,13 +24,13 @@ outside_by : (number : ℕ) (above : Above) (line : List ℕ) (inside : Option P
 outside_by number above line None is = refl
 outside_by number above line (Some program) is = absurd (cc)
 
-shape_step : (number : ℕ) (above : Above) (line body : List ℕ) (words : List (List ℕ)) (shape : Shape) → content line ≡ body → words_of body ≡ words
-    → shape_of words ≡ Some shape → first_cause above shape ≡ None → after_outside number above line ≡ Ok (above_next number above shape)
+shape_step : (number : ℕ) (above : Above) (line body : List ℕ) (words : List (List ℕ)) (shape : Shape) → content line ≡ body → line_words body ≡ words
+    → shape_of words ≡ Some shape → first_reason above shape ≡ None → after_outside number above line ≡ Ok (above_next number above shape)
 unfolding after_outside after_shape
 shape_step number above line body words shape content_is words_are shape_is none = rw (content_is, words_are, shape_is, none) refl
 
-outside_step : (number : ℕ) (above : Above) (line body : List ℕ) (words : List (List ℕ)) (shape : Shape) → above.inside ≡ None → content line ≡ body → words_of body ≡ words
-    → shape_of words ≡ Some shape → first_cause above shape ≡ None → after_line number above line ≡ Ok (above_next number above shape)
+outside_step : (number : ℕ) (above : Above) (line body : List ℕ) (words : List (List ℕ)) (shape : Shape) → above.inside ≡ None → content line ≡ body → line_words body ≡ words
+    → shape_of words ≡ Some shape → first_reason above shape ≡ None → after_line number above line ≡ Ok (above_next number above shape)
 outside_step number above line body words shape inside content_is words_are shape_is none =
     outside_by number above line above.inside inside ∙ shape_step number above line body words shape content_is words_are shape_is none
 

@@ -1,5 +1,6 @@
 -- What every line keeps of what stands above it.
 use Rattle.std.proofs.Common.{◌≡◌, ℕ, suc, ◌+◌, ◌<◌, ◌≤◌, Bool, true, false, List, [], ◌∷◌, ◌++◌, length, get_or, map, Option, Some, None, All, refl, ap, arith}
+use Rattle.qpu_word.specs.declared.code.TheConstants.{LIMIT_MOST}
 use Rattle.std.specs.Prelude.{position, not, ◌||◌, nat_eq, bytes_eq, IfSome, option_map, option_and_then, codes, is_some, is_none, if◌then◌else◌}
 use Rattle.std.specs.List.{list_any}
 use Rattle.std.proofs.lemmas.Bool.{not-true, not-false, and_parts, or_parts}
@@ -8,17 +9,17 @@ use Rattle.std.proofs.lemmas.List.Elements.{All-nil, All-cons}
 use Rattle.std.proofs.lemmas.List.Sums.{fails_before_first}
 use Rattle.qpu_word.proofs.ProfileLemmas.{every_row}
 use Rattle.qpu_job.specs.declared.job.Value.{Value}
-use Rattle.qpu_job.specs.declared.job.TheConstants.{MOST_MEMORY, MOST_LIMIT, MOST_PROGRAMS, MOST_TEXT}
-use Rattle.qpu_job.specs.declared.cause.Cause.{Cause}
-use Rattle.qpu_job.specs.declared.cause.Cause.TheVariants as cause
+use Rattle.qpu_job.specs.declared.job.TheConstants.{MOST_MEMORY, MOST_PROGRAMS, MOST_TEXT}
+use Rattle.qpu_job.specs.declared.reason.Reason.{Reason}
+use Rattle.qpu_job.specs.declared.reason.Reason.TheVariants as cause
 use Rattle.qpu_job.specs.declared.stage.Stage.{Stage}
 use Rattle.qpu_job.specs.declared.stage.Stage.TheVariants.{Nothing, Opened, Sized, Limited}
-use Rattle.qpu_job.specs.Words.{is_name, name_of, number_of, numbers_of}
+use Rattle.qpu_job.specs.Words.{is_name, name_of, number_of, line_numbers}
 use Rattle.qpu_job.specs.Shapes.{Shape, Empty, Opening, Memory, Limit, Data, Program, Start, opening_shape, memory_shape, limit_shape, data_shape, program_shape, start_shape, shape_of}
 use Rattle.qpu_job.specs.Plan.{Plan, Program as ProgramOf}
 use Rattle.qpu_job.specs.Above.{Above, at_first, index_in, values_from}
-use Rattle.qpu_job.specs.Faults.{stands, has_wrong_size, is_too_much, is_twice, has_fault, all_causes, first_cause}
-use Rattle.qpu_job.specs.ReadJob.{differ, names, started, IsProgram, IsStart}
+use Rattle.qpu_job.specs.Faults.{stands, has_wrong_size, is_too_much, is_twice, has_reason, all_causes, first_reason}
+use Rattle.qpu_job.specs.ReadJob.{differ, names, started_processors, IsProgram, IsStart}
 use Rattle.qpu_job.proofs.WordLemmas.{none_first}
 
 -- a size of memory
@@ -48,14 +49,14 @@ pub record IsAbove (total line rest : ℕ) (above : Above) : Type 0 where
   pub most : total ≤ MOST_TEXT
   pub number : line + rest ≤ total + 1
   pub memory : HasMemory above.stage above.plan
-  pub limit : above.plan.limit ≤ MOST_LIMIT
+  pub limit : above.plan.limit ≤ LIMIT_MOST
   pub values : All (λ (value : Value). value.at < above.plan.words) above.plan.values
   pub few : length above.plan.programs + how_many above.inside ≤ MOST_PROGRAMS
   pub programs : All IsProgram above.plan.programs
   pub inside : IfSome above.inside (IsOpen total line rest above.plan.programs)
   pub names : differ bytes_eq (names above.plan) ≡ true
   pub starts : All (IsStart (length above.plan.programs)) above.plan.starts
-  pub processors : differ nat_eq (started above.plan) ≡ true
+  pub processors : differ nat_eq (started_processors above.plan) ≡ true
 
 pub begins : (total : ℕ) → total ≤ MOST_TEXT → IsAbove total 1 total at_first
 begins total most = record {
@@ -150,7 +151,7 @@ data_named : (words : List (List ℕ)) → IsNamed (data_shape words)
 unfolding data_shape
 data_named [] = tt
 data_named (address ∷ []) = tt
-data_named (address ∷ value ∷ values) = named_data (number_of address) (numbers_of (value ∷ values))
+data_named (address ∷ value ∷ values) = named_data (number_of address) (line_numbers (value ∷ values))
 
 named_program : (name : List ℕ) (b : Bool) → is_name name ≡ b → IsNamed (option_map Program (if b then Some name else None))
 named_program name true is = is
@@ -195,11 +196,11 @@ shape_named (word ∷ rest) =
 
 -- a line of each shape, outside programs
 
-pub no_fault : (above : Above) (shape : Shape) → first_cause above shape ≡ None → (k : ℕ) (d : Cause) → k < 7 → has_fault above shape (get_or all_causes k d) ≡ false
-unfolding first_cause
-no_fault above shape h k d below = every_row (has_fault above shape) all_causes h k d below
+pub no_fault : (above : Above) (shape : Shape) → first_reason above shape ≡ None → (k : ℕ) (d : Reason) → k < 7 → has_reason above shape (get_or all_causes k d) ≡ false
+unfolding first_reason
+no_fault above shape h k d below = every_row (has_reason above shape) all_causes h k d below
 
-pub stands_here : (above : Above) (shape : Shape) → first_cause above shape ≡ None → stands above.stage shape ≡ true
+pub stands_here : (above : Above) (shape : Shape) → first_reason above shape ≡ None → stands above.stage shape ≡ true
 stands_here above shape h =
     let f : not (stands above.stage shape) ≡ false = no_fault above shape h 0 cause.Line (omega arith) in
     not-false (stands above.stage shape) f
@@ -245,19 +246,19 @@ before_limit Opened limit plan s h = absurd (cc)
 before_limit Sized limit plan s h = h.0
 before_limit Limited limit plan s h = absurd (cc)
 
-pub right_size : (above : Above) (words : ℕ) → first_cause above (Memory words) ≡ None → IsSize words
+pub right_size : (above : Above) (words : ℕ) → first_reason above (Memory words) ≡ None → IsSize words
 unfolding has_wrong_size
 right_size above words h =
     let f : has_wrong_size (Memory words) ≡ false = no_fault above (Memory words) h 1 cause.Size (omega arith) in
     (grind (arith, nat_tests), grind (arith, nat_tests))
 
-pub right_limit : (above : Above) (limit : ℕ) → first_cause above (Limit limit) ≡ None → limit ≤ MOST_LIMIT
+pub right_limit : (above : Above) (limit : ℕ) → first_reason above (Limit limit) ≡ None → limit ≤ LIMIT_MOST
 unfolding is_too_much
 right_limit above limit h =
     let f : is_too_much above (Limit limit) ≡ false = no_fault above (Limit limit) h 2 cause.Limit (omega arith) in
     grind (arith, nat_tests)
 
-pub room_left : (above : Above) (name : List ℕ) → first_cause above (Program name) ≡ None → length above.plan.programs < MOST_PROGRAMS
+pub room_left : (above : Above) (name : List ℕ) → first_reason above (Program name) ≡ None → length above.plan.programs < MOST_PROGRAMS
 unfolding is_too_much
 room_left above name h =
     let f : is_too_much above (Program name) ≡ false = no_fault above (Program name) h 2 cause.Limit (omega arith) in
@@ -267,7 +268,7 @@ none_is : {A : Type 0} (o : Option A) → is_some o ≡ false → o ≡ None
 none_is None h = refl
 none_is (Some a) h = absurd (cc)
 
-pub new_name : (above : Above) (name : List ℕ) → first_cause above (Program name) ≡ None → index_in above.plan.programs name ≡ None
+pub new_name : (above : Above) (name : List ℕ) → first_reason above (Program name) ≡ None → index_in above.plan.programs name ≡ None
 unfolding is_twice
 new_name above name h =
     let f : is_twice above (Program name) ≡ false = no_fault above (Program name) h 3 cause.Twice (omega arith) in

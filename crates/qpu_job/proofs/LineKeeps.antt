@@ -8,21 +8,21 @@ use Rattle.std.proofs.lemmas.Bool.{leb-false, and_parts}
 use Rattle.qpu_machine.specs.declared.start.Start.{Start as StartOf}
 use Rattle.qpu_job.specs.declared.job.Value.{Value}
 use Rattle.qpu_job.specs.declared.job.TheConstants.{MOST_PROGRAMS}
-use Rattle.qpu_job.specs.declared.above.TheConstants.{WORD_BYTES}
+use Rattle.qpu_word.specs.declared.code.TheConstants.{WORD_BYTES}
 use Rattle.qpu_job.specs.declared.fault.JobFault.{JobFault}
 use Rattle.qpu_job.specs.declared.fault.JobFault.TheVariants as fault
-use Rattle.qpu_job.specs.declared.cause.Cause.{Cause}
-use Rattle.qpu_job.specs.declared.cause.Cause.TheVariants as cause
+use Rattle.qpu_job.specs.declared.reason.Reason.{Reason}
+use Rattle.qpu_job.specs.declared.reason.Reason.TheVariants as cause
 use Rattle.qpu_job.specs.declared.stage.Stage.{Stage}
 use Rattle.qpu_job.specs.declared.stage.Stage.TheVariants.{Nothing, Opened, Sized, Limited}
 use Rattle.qpu_job.specs.Lines.{content}
-use Rattle.qpu_job.specs.Words.{words_of}
+use Rattle.qpu_job.specs.Words.{line_words}
 use Rattle.qpu_job.specs.Shapes.{Shape, Empty, Opening, Memory, Limit, Data, Program, Start, shape_of}
 use Rattle.qpu_job.specs.Plan.{Plan, Program as ProgramOf}
 use Rattle.qpu_job.specs.Above.{Above, index_in, values_from, new_start, above_next, with_line, with_program}
-use Rattle.qpu_job.specs.Faults.{stands, is_twice, is_no_processor, is_no_program, first_cause}
+use Rattle.qpu_job.specs.Faults.{stands, is_twice, is_no_processor, is_no_program, first_reason}
 use Rattle.qpu_job.specs.Reading.{is_end, is_limited, unless_fault, after_shape, after_outside, after_inside, after_line_in, after_line, at_end}
-use Rattle.qpu_job.specs.ReadJob.{differ, names, started, IsProgram, IsStart, IsReadJob}
+use Rattle.qpu_job.specs.ReadJob.{differ, names, started_processors, IsProgram, IsStart, IsReadJob}
 use Rattle.qpu_job.proofs.AboveLemmas.{place_fits}
 use Rattle.qpu_job.proofs.KeptLemmas.{HasMemory, how_many, IsOpen, IsAbove, IsNamed, shape_named, later, no_fault, stands_here, opened, before_size, before_limit, right_size, right_limit, room_left, new_name, some_is, values_below, none_any, any_map, differ_push}
 
@@ -32,7 +32,7 @@ no_value plan words none = subst (λ (values : List Value). All (λ (value : Val
 no_program : ProgramOf
 no_program = record { name = []; text = []; line = 0 }
 
-new_start_fits : (above : Above) (q : ℕ) (name : List ℕ) (uniforms : ℕ) → first_cause above (Start q name uniforms) ≡ None
+new_start_fits : (above : Above) (q : ℕ) (name : List ℕ) (uniforms : ℕ) → first_reason above (Start q name uniforms) ≡ None
     → IsStart (length above.plan.programs) (new_start (index_in above.plan.programs name) q uniforms)
 unfolding is_no_processor is_no_program
 new_start_fits above q name uniforms h =
@@ -42,13 +42,13 @@ new_start_fits above q name uniforms h =
     let place = position-Some (λ program. bytes_eq program.name name) above.plan.programs found.0 no_program found.1 in
     record { q = leb-false _ _ there; program = rw found.1 place.0 }
 
-new_processor : (above : Above) (q : ℕ) (name : List ℕ) (uniforms : ℕ) (index : Option ℕ) → first_cause above (Start q name uniforms) ≡ None
-    → differ nat_eq (started above.plan) ≡ true → differ nat_eq (map (λ start. start.q) (above.plan.starts ++ new_start index q uniforms ∷ [])) ≡ true
+new_processor : (above : Above) (q : ℕ) (name : List ℕ) (uniforms : ℕ) (index : Option ℕ) → first_reason above (Start q name uniforms) ≡ None
+    → differ nat_eq (started_processors above.plan) ≡ true → differ nat_eq (map (λ start. start.q) (above.plan.starts ++ new_start index q uniforms ∷ [])) ≡ true
 unfolding is_twice
 new_processor above q name uniforms index h apart =
     let other : is_twice above (Start q name uniforms) ≡ false = no_fault above (Start q name uniforms) h 3 cause.Twice (omega arith) in
     rw (map_push (λ (start : StartOf). start.q) above.plan.starts (new_start index q uniforms))
-    (differ_push nat_eq (started above.plan) q apart
+    (differ_push nat_eq (started_processors above.plan) q apart
     (any_map (λ (start : StartOf). start.q) (λ other. nat_eq other q) above.plan.starts ∙ other))
 
 with_values : (stage : Stage) (plan : Plan) (all : List Value) (address : ℕ) (values : List ℕ) → stands stage (Data address values) ≡ true → HasMemory stage plan → HasMemory stage (record plan { values = all })
@@ -72,7 +72,7 @@ with_programs Limited plan programs h = h
 
 -- a line outside programs
 
-taken : (total line rest more : ℕ) (above : Above) (shape : Shape) → more < rest → above.inside ≡ None → IsNamed (Some shape) → first_cause above shape ≡ None
+taken : (total line rest more : ℕ) (above : Above) (shape : Shape) → more < rest → above.inside ≡ None → IsNamed (Some shape) → first_reason above shape ≡ None
     → IsAbove total line rest above → IsAbove total (line + 1) more (above_next line above shape)
 unfolding above_next
 taken total line rest more above Empty less none named fits h = later more less h
@@ -174,7 +174,7 @@ taken total line rest more above (Start q name uniforms) less none named fits h 
       processors = new_processor above q name uniforms (index_in above.plan.programs name) fits h.processors;
     }
 
-named_taken : (total line rest more : ℕ) (above next : Above) (shape : Shape) (fault : Option Cause) → first_cause above shape ≡ fault → more < rest → above.inside ≡ None → IsNamed (Some shape)
+named_taken : (total line rest more : ℕ) (above next : Above) (shape : Shape) (fault : Option Reason) → first_reason above shape ≡ fault → more < rest → above.inside ≡ None → IsNamed (Some shape)
     → IsAbove total line rest above → unless_fault line above shape fault ≡ Ok next → IsAbove total (line + 1) more next
 named_taken total line rest more above next shape None fits less none named h is =
     let same : above_next line above shape ≡ next = cc in
@@ -186,13 +186,13 @@ after_shape_keeps : (total line rest more : ℕ) (above next : Above) (shape : O
 unfolding after_shape
 after_shape_keeps total line rest more above next None less none named h is = absurd (cc)
 after_shape_keeps total line rest more above next (Some shape) less none named h is =
-    named_taken total line rest more above next shape (first_cause above shape) refl less none named h is
+    named_taken total line rest more above next shape (first_reason above shape) refl less none named h is
 
 outside_keeps : (total line rest more : ℕ) (above next : Above) (text : List ℕ) → more < rest → above.inside ≡ None
     → IsAbove total line rest above → after_outside line above text ≡ Ok next → IsAbove total (line + 1) more next
 unfolding after_outside
 outside_keeps total line rest more above next text less none h is =
-    after_shape_keeps total line rest more above next (shape_of (words_of (content text))) less none (shape_named (words_of (content text))) h is
+    after_shape_keeps total line rest more above next (shape_of (line_words (content text))) less none (shape_named (line_words (content text))) h is
 
 -- a line inside of one
 
@@ -304,8 +304,8 @@ ended_by total line rest above is h =
       processors = h.processors;
     }
 
-abbrev pub end_of : ℕ → Above → Bool → Result Plan JobFault
-end_of line above ended = if ended then Ok above.plan else Err (fault.Line line)
+abbrev pub job_end : ℕ → Above → Bool → Result Plan JobFault
+job_end line above ended = if ended then Ok above.plan else Err (fault.Line line)
 
 pub limited : (stage : Stage) → is_limited stage ≡ true → stage ≡ Limited
 limited Nothing h = absurd (cc)
@@ -314,7 +314,7 @@ limited Sized h = absurd (cc)
 limited Limited h = refl
 
 end_by : (total line rest : ℕ) (above : Above) (plan : Plan) (ended : Bool) → (is_limited above.stage && is_none above.inside) ≡ ended → IsAbove total line rest above
-    → end_of line above ended ≡ Ok plan → IsReadJob plan
+    → job_end line above ended ≡ Ok plan → IsReadJob plan
 end_by total line rest above plan true is h e =
     let same : above.plan ≡ plan = cc in
     let parts = and_parts (is_limited above.stage) (is_none above.inside) is in

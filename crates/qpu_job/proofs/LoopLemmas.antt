@@ -5,18 +5,18 @@ use Rattle.qpu_job.specs.declared.job.TheConstants.{MOST_TEXT}
 use Rattle.qpu_job.specs.declared.job.Job.{Job}
 use Rattle.qpu_job.specs.declared.fault.JobFault.{JobFault}
 use Rattle.qpu_job.specs.declared.fault.JobFault.TheVariants as fault
-use Rattle.qpu_job.specs.declared.cause.Cause.{Cause}
-use Rattle.qpu_job.specs.declared.cause.Cause.TheVariants as cause
+use Rattle.qpu_job.specs.declared.reason.Reason.{Reason}
+use Rattle.qpu_job.specs.declared.reason.Reason.TheVariants as cause
 use Rattle.qpu_job.specs.Lines.{lines, content}
-use Rattle.qpu_job.specs.Words.{words_of}
+use Rattle.qpu_job.specs.Words.{line_words}
 use Rattle.qpu_job.specs.Shapes.{Shape, shape_of}
 use Rattle.qpu_job.specs.Plan.{Program, plan_of}
 use Rattle.qpu_job.specs.Above.{Above, at_first, with_line, with_program}
-use Rattle.qpu_job.specs.Faults.{first_cause, fault_at}
-use Rattle.qpu_job.specs.Reading.{is_end, is_limited, unless_fault, after_shape, after_outside, after_inside, after_line_in, after_line, at_end, read_lines, job_of, Fails, Gives, IsReadFault}
+use Rattle.qpu_job.specs.Faults.{first_reason, fault_at}
+use Rattle.qpu_job.specs.Reading.{is_end, is_limited, unless_fault, after_shape, after_outside, after_inside, after_line_in, after_line, at_end, read_lines, job_of, Fails, GivesJob, IsReadFault}
 use Rattle.qpu_job.specs.ReadJob.{IsReadJob}
 use Rattle.qpu_job.proofs.KeptLemmas.{IsAbove, begins}
-use Rattle.qpu_job.proofs.LineKeeps.{end_of, line_keeps, end_keeps}
+use Rattle.qpu_job.proofs.LineKeeps.{job_end, line_keeps, end_keeps}
 
 -- the text is read up to the rest, of which the first line has this number
 pub record IsRead (text rest : List ℕ) (number : ℕ) (above : Above) : Type 0 where
@@ -68,11 +68,11 @@ read_ends text rest number above r none =
     sym here ∙ r.read
 
 pub gives_end : (text rest : List ℕ) (number : ℕ) (above : Above) (result : Result Job JobFault) → IsRead text rest number above → lines rest ≡ []
-    → Gives plan_of result (at_end number above) → Gives plan_of result (job_of text)
-gives_end text rest number above result r none h = subst (Gives plan_of result) (read_ends text rest number above r none) h
+    → GivesJob plan_of result (at_end number above) → GivesJob plan_of result (job_of text)
+gives_end text rest number above result r none h = subst (GivesJob plan_of result) (read_ends text rest number above r none) h
 
 pub keeps_end : (text rest : List ℕ) (number : ℕ) (above : Above) (result : Result Job JobFault) → IsRead text rest number above
-    → Gives plan_of result (at_end number above) → IfOk result (λ job. IsReadJob (plan_of job))
+    → GivesJob plan_of result (at_end number above) → IfOk result (λ job. IsReadJob (plan_of job))
 keeps_end text rest number above (Ok job) r h = end_keeps (length text) number (length rest) above (plan_of job) r.kept h
 keeps_end text rest number above (Err f) r h = tt
 
@@ -82,7 +82,7 @@ abbrev pub Tells : {A : Type 0} → Result A JobFault → Type 0
 Tells (Ok a) = Unit {0}
 Tells (Err f) = IsReadFault f
 
-told_at : (number : ℕ) (c : Cause) → IsReadFault (fault_at number c)
+told_at : (number : ℕ) (c : Reason) → IsReadFault (fault_at number c)
 told_at number cause.Line = tt
 told_at number cause.Size = tt
 told_at number cause.Limit = tt
@@ -91,14 +91,14 @@ told_at number cause.Processor = tt
 told_at number cause.NoProgram = tt
 told_at number cause.Place = tt
 
-told_unless : (number : ℕ) (above : Above) (shape : Shape) (c : Option Cause) → Tells (unless_fault number above shape c)
+told_unless : (number : ℕ) (above : Above) (shape : Shape) (c : Option Reason) → Tells (unless_fault number above shape c)
 told_unless number above shape None = tt
 told_unless number above shape (Some c) = told_at number c
 
 told_shape : (number : ℕ) (above : Above) (shape : Option Shape) → Tells (after_shape number above shape)
 unfolding after_shape
 told_shape number above None = tt
-told_shape number above (Some shape) = told_unless number above shape (first_cause above shape)
+told_shape number above (Some shape) = told_unless number above shape (first_reason above shape)
 
 abbrev either : {A : Type 0} → Bool → A → A → Result A JobFault
 either b x y = if b then Ok x else Ok y
@@ -109,10 +109,10 @@ told_either false x y number = tt
 
 told_line_in : (number : ℕ) (above : Above) (inside : Option Program) (line : List ℕ) → Tells (after_line_in inside number above line)
 unfolding after_outside after_inside
-told_line_in number above None line = told_shape number above (shape_of (words_of (content line)))
+told_line_in number above None line = told_shape number above (shape_of (line_words (content line)))
 told_line_in number above (Some program) line = told_either (is_end line) (with_program above program) (with_line above program line) number
 
-told_end_by : (number : ℕ) (above : Above) (b : Bool) → Tells (end_of number above b)
+told_end_by : (number : ℕ) (above : Above) (b : Bool) → Tells (job_end number above b)
 told_end_by number above true = tt
 told_end_by number above false = tt
 
@@ -135,6 +135,6 @@ read_fault (fault.Check program check) due told h = subst Tells h told
 pub line_fault : (number : ℕ) (above : Above) (line : List ℕ) (f : JobFault) → Fails f (after_line number above line) → IsReadFault f
 line_fault number above line f h = read_fault f (after_line number above line) (told_line_in number above above.inside line) h
 
-pub kinds_end : (number : ℕ) (above : Above) (result : Result Job JobFault) → Gives plan_of result (at_end number above) → IfErr result IsReadFault
+pub kinds_end : (number : ℕ) (above : Above) (result : Result Job JobFault) → GivesJob plan_of result (at_end number above) → IfErr result IsReadFault
 kinds_end number above (Ok job) h = tt
 kinds_end number above (Err f) h = read_fault f (at_end number above) (told_end number above) h

@@ -10,7 +10,7 @@ use Rattle.std.proofs.lemmas.Map.Steps.{length-le_from_distinct_below}
 use Rattle.std.proofs.lemmas.Map.Keys.{apart_from_distinct}
 use Rattle.qpu_machine.specs.declared.start.Start.{Start}
 use Rattle.qpu_job.specs.Plan.{Plan}
-use Rattle.qpu_job.specs.ReadJob.{IsReadJob, IsStart, differ, started}
+use Rattle.qpu_job.specs.ReadJob.{IsReadJob, IsStart, differ, started_processors}
 
 not_any : (n : ℕ) (xs : List ℕ) → not (list_any (nat_eq n) xs) ≡ true → AllByRecursion (λ m. nat_eq n m ≡ false) xs
 not_any n [] none = tt
@@ -43,22 +43,22 @@ below_of (x ∷ xs) n q all any =
 
 pub few_starts : (plan : Plan) → IsReadJob plan → length plan.starts ≤ 12
 few_starts plan is =
-    let low : All (λ m. m < 12) (started plan) =
+    let low : All (λ m. m < 12) (started_processors plan) =
     All-map (λ m. m < 12) (λ (start : Start). start.q) plan.starts
     (All-weaker (IsStart (length plan.programs)) (λ start. start.q < 12) (λ start s. s.q) plan.starts is.starts) in
     omega (
       arith,
       length-map plan.starts (λ (start : Start). start.q),
-      length-le_from_distinct_below (started plan) 12 (distinct_of (started plan) is.processors) (λ q any. below_of (started plan) 12 q low any),
+      length-le_from_distinct_below (started_processors plan) 12 (distinct_of (started_processors plan) is.processors) (λ q any. below_of (started_processors plan) 12 q low any),
     )
 
 pub starts_differ : (plan : Plan) → IsReadJob plan → AllPairs (λ s t. s.q ≢ t.q) plan.starts
 starts_differ plan is i j d low high same =
-    let first : get_or (started plan) i d.q ≡ (get_or plan.starts i d).q = get_or-map (λ (start : Start). start.q) plan.starts i d d.q (omega arith) in
-    let second : get_or (started plan) j d.q ≡ (get_or plan.starts j d).q = get_or-map (λ (start : Start). start.q) plan.starts j d d.q high in
-    let apart : nat_eq (get_or (started plan) i d.q) (get_or (started plan) j d.q) ≡ false =
-    apart_from_distinct nat_eq (started plan) i j d.q (distinct_of (started plan) is.processors) low (omega (arith, high, length-map plan.starts (λ (start : Start). start.q))) in
-    not_same (get_or (started plan) i d.q) (get_or (started plan) j d.q) apart (first ∙ (same ∙ sym second))
+    let first : get_or (started_processors plan) i d.q ≡ (get_or plan.starts i d).q = get_or-map (λ (start : Start). start.q) plan.starts i d d.q (omega arith) in
+    let second : get_or (started_processors plan) j d.q ≡ (get_or plan.starts j d).q = get_or-map (λ (start : Start). start.q) plan.starts j d d.q high in
+    let apart : nat_eq (get_or (started_processors plan) i d.q) (get_or (started_processors plan) j d.q) ≡ false =
+    apart_from_distinct nat_eq (started_processors plan) i j d.q (distinct_of (started_processors plan) is.processors) low (omega (arith, high, length-map plan.starts (λ (start : Start). start.q))) in
+    not_same (get_or (started_processors plan) i d.q) (get_or (started_processors plan) j d.q) apart (first ∙ (same ∙ sym second))
   where
     not_same : (a b : ℕ) → nat_eq a b ≡ false → a ≡ b → ⊥
     not_same a b apart same = absurd (grind (arith, nat_tests))

@@ -11,7 +11,7 @@ use Rattle.std.proofs.lemmas.List.Elements.{filter-append}
 use Rattle.std.proofs.lemmas.List.Splits.{slice_split_first, slice_split_none}
 use Rattle.std.proofs.lemmas.List.Sums.{fails_before_first}
 use Rattle.qpu_token.specs.Words.{is_blank, is_name_byte}
-use Rattle.qpu_job.specs.Words.{is_some_word, words_between, number_of, numbers_of, texts_of}
+use Rattle.qpu_job.specs.Words.{is_some_word, words_between, number_of, line_numbers, texts_of}
 
 pub at_first : {X : Type 0} (p : X → Bool) (xs : List X) (i : ℕ) → position p xs ≡ Some i → (position_or_len p xs < length xs) × (position_or_len p xs ≡ i)
 at_first p xs i h = (grind (arith, nat_tests), grind (arith, nat_tests))
@@ -55,25 +55,25 @@ regroup front n None = refl
 regroup front n (Some more) = ap (λ (t : List ℕ). Some t) (sym (append_assoc front (n ∷ []) more))
 
 pub numbers_more : (words : List (Bor (List ℕ))) (i : ℕ) (d : Bor (List ℕ)) (front : List ℕ) (n : ℕ) (all : Option (List ℕ)) → i < length words → number_of (get_or words i d).now ≡ Some n
-    → with_numbers front (numbers_of (texts_of (drop i words))) ≡ all → with_numbers (front ++ n ∷ []) (numbers_of (texts_of (drop (i + 1) words))) ≡ all
-unfolding numbers_of
+    → with_numbers front (line_numbers (texts_of (drop i words))) ≡ all → with_numbers (front ++ n ∷ []) (line_numbers (texts_of (drop (i + 1) words))) ≡ all
+unfolding line_numbers
 numbers_more words i d front n all below one so_far =
-    let here : with_numbers front (numbers_of (texts_of (drop i words))) ≡ with_numbers front (option_map (λ more. n ∷ more) (numbers_of (texts_of (drop (i + 1) words)))) = rw (drop_here words i d below, one) refl in
-    sym (regroup front n (numbers_of (texts_of (drop (i + 1) words)))) ∙ sym here ∙ so_far
+    let here : with_numbers front (line_numbers (texts_of (drop i words))) ≡ with_numbers front (option_map (λ more. n ∷ more) (line_numbers (texts_of (drop (i + 1) words)))) = rw (drop_here words i d below, one) refl in
+    sym (regroup front n (line_numbers (texts_of (drop (i + 1) words)))) ∙ sym here ∙ so_far
 
 pub numbers_none : (words : List (Bor (List ℕ))) (i : ℕ) (d : Bor (List ℕ)) (front : List ℕ) (all : Option (List ℕ)) → i < length words → number_of (get_or words i d).now ≡ None
-    → with_numbers front (numbers_of (texts_of (drop i words))) ≡ all → all ≡ None
-unfolding numbers_of
+    → with_numbers front (line_numbers (texts_of (drop i words))) ≡ all → all ≡ None
+unfolding line_numbers
 numbers_none words i d front all below none so_far =
-    let here : with_numbers front (numbers_of (texts_of (drop i words))) ≡ None = rw (drop_here words i d below, none) refl in
+    let here : with_numbers front (line_numbers (texts_of (drop i words))) ≡ None = rw (drop_here words i d below, none) refl in
     sym so_far ∙ here
 
 pub numbers_done : (words : List (Bor (List ℕ))) (i : ℕ) (front : List ℕ) (all : Option (List ℕ)) → length words ≤ i
-    → with_numbers front (numbers_of (texts_of (drop i words))) ≡ all → all ≡ Some front
-unfolding numbers_of
+    → with_numbers front (line_numbers (texts_of (drop i words))) ≡ all → all ≡ Some front
+unfolding line_numbers
 numbers_done words i front all past so_far =
     let nothing : drop i words ≡ [] = drop_all i words past in
-    let here : with_numbers front (numbers_of (texts_of (drop i words))) ≡ Some front = rw nothing (ap (λ (t : List ℕ). Some t) (append-nil front)) in
+    let here : with_numbers front (line_numbers (texts_of (drop i words))) ≡ Some front = rw nothing (ap (λ (t : List ℕ). Some t) (append-nil front)) in
     sym so_far ∙ here
 
 -- the bytes of names are ASCII

@@ -4,7 +4,7 @@ use Rattle.qpu_machine.specs.declared.start.Start.{Start as StartOf}
 use Rattle.qpu_job.specs.declared.job.Value.{Value}
 use Rattle.qpu_job.specs.declared.stage.Stage.{Stage}
 use Rattle.qpu_job.specs.declared.stage.Stage.TheVariants as stage
-use Rattle.qpu_job.specs.declared.above.TheConstants.{WORD_BYTES}
+use Rattle.qpu_word.specs.declared.code.TheConstants.{WORD_BYTES}
 use Rattle.qpu_job.specs.declared.above.Above.{Above as Held}
 use Rattle.qpu_job.specs.Plan.{Plan, Program as ProgramOf, plan_of, program_of}
 use Rattle.qpu_job.specs.Shapes.{Shape, Empty, Opening, Memory, Limit, Data, Program, Start}

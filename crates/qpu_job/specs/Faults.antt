@@ -2,12 +2,12 @@
 -- that does. This project's own.
 use Rattle.std.specs.Prelude.{ℕ, ◌+◌, ◌/◌, ◌%◌, ◌==◌, ◌||◌, Bool, true, false, not, nat_lt, nat_le, List, [], ◌∷◌, length, Option, find, is_some, is_none}
 use Rattle.std.specs.List.{list_any}
-use Rattle.qpu_job.specs.declared.job.TheConstants.{MOST_MEMORY, MOST_LIMIT, MOST_PROGRAMS, PROCESSORS}
-use Rattle.qpu_job.specs.declared.above.TheConstants.{WORD_BYTES}
+use Rattle.qpu_job.specs.declared.job.TheConstants.{MOST_MEMORY, MOST_PROGRAMS}
+use Rattle.qpu_word.specs.declared.code.TheConstants.{WORD_BYTES, PROCESSORS, LIMIT_MOST}
 use Rattle.qpu_job.specs.declared.fault.JobFault.{JobFault}
 use Rattle.qpu_job.specs.declared.fault.JobFault.TheVariants as fault
-use Rattle.qpu_job.specs.declared.cause.Cause.{Cause}
-use Rattle.qpu_job.specs.declared.cause.Cause.TheVariants as cause
+use Rattle.qpu_job.specs.declared.reason.Reason.{Reason}
+use Rattle.qpu_job.specs.declared.reason.Reason.TheVariants as cause
 use Rattle.qpu_job.specs.declared.stage.Stage.{Stage}
 use Rattle.qpu_job.specs.declared.stage.Stage.TheVariants.{Nothing, Opened, Sized, Limited}
 use Rattle.qpu_job.specs.Shapes.{Shape, Empty, Opening, Memory, Limit, Data, Program, Start}
@@ -29,7 +29,7 @@ has_wrong_size (Memory words) = (words == 0) || nat_lt MOST_MEMORY words
 has_wrong_size shape = false
 
 unfoldable pub is_too_much : Above → Shape → Bool
-is_too_much above (Limit limit) = nat_lt MOST_LIMIT limit
+is_too_much above (Limit limit) = nat_lt LIMIT_MOST limit
 is_too_much above (Program name) = nat_le MOST_PROGRAMS (length above.plan.programs)
 is_too_much above shape = false
 
@@ -52,25 +52,25 @@ is_no_place above (Data address values) =
     not (address % WORD_BYTES == 0) || not (nat_le (address / WORD_BYTES + length values) above.plan.words)
 is_no_place above shape = false
 
-abbrev pub has_fault : Above → Shape → Cause → Bool
-has_fault above shape cause.Line = not (stands above.stage shape)
-has_fault above shape cause.Size = has_wrong_size shape
-has_fault above shape cause.Limit = is_too_much above shape
-has_fault above shape cause.Twice = is_twice above shape
-has_fault above shape cause.Processor = is_no_processor shape
-has_fault above shape cause.NoProgram = is_no_program above shape
-has_fault above shape cause.Place = is_no_place above shape
+abbrev pub has_reason : Above → Shape → Reason → Bool
+has_reason above shape cause.Line = not (stands above.stage shape)
+has_reason above shape cause.Size = has_wrong_size shape
+has_reason above shape cause.Limit = is_too_much above shape
+has_reason above shape cause.Twice = is_twice above shape
+has_reason above shape cause.Processor = is_no_processor shape
+has_reason above shape cause.NoProgram = is_no_program above shape
+has_reason above shape cause.Place = is_no_place above shape
 
 -- in the order in which they count
-abbrev pub all_causes : List Cause
+abbrev pub all_causes : List Reason
 all_causes =
     cause.Line ∷ cause.Size ∷ cause.Limit ∷ cause.Twice ∷ cause.Processor ∷ cause.NoProgram ∷ cause.Place ∷ []
 
-unfoldable pub first_cause : Above → Shape → Option Cause
-first_cause above shape = find (has_fault above shape) all_causes
+unfoldable pub first_reason : Above → Shape → Option Reason
+first_reason above shape = find (has_reason above shape) all_causes
 
 -- the fault of a cause in a line
-abbrev pub fault_at : ℕ → Cause → JobFault
+abbrev pub fault_at : ℕ → Reason → JobFault
 fault_at number cause.Line = fault.Line number
 fault_at number cause.Size = fault.Size number
 fault_at number cause.Limit = fault.Limit number

@@ -9,7 +9,7 @@ use Rattle.qpu_job.specs.Words.{is_hash}
 use Rattle.qpu_job.specs.Shapes.{Shape, shape_of}
 use Rattle.qpu_job.specs.Plan.{Plan, Program}
 use Rattle.qpu_job.specs.Above.{Above, at_first, above_next, with_line, with_program}
-use Rattle.qpu_job.specs.Faults.{first_cause}
+use Rattle.qpu_job.specs.Faults.{first_reason}
 use Rattle.qpu_job.specs.Reading.{job_of}
 
 -- no byte passes the test
@@ -57,7 +57,7 @@ pub data IsLine (body : List ℕ) : List ℕ → List ℕ → Type 0 where
 pub data Asks : ℕ → Above → List ℕ → Plan → Type 0 where
   ends : {number : ℕ} (above : Above) → above.stage ≡ Limited → above.inside ≡ None → Asks number above [] above.plan
   says : {number : ℕ} {rest : List ℕ} {plan : Plan} (above : Above) (line body : List ℕ) (words : List (List ℕ)) (shape : Shape)
-      → above.inside ≡ None → IsLine body line rest → Says body words → shape_of words ≡ Some shape → first_cause above shape ≡ None
+      → above.inside ≡ None → IsLine body line rest → Says body words → shape_of words ≡ Some shape → first_reason above shape ≡ None
       → Asks (number + 1) (above_next number above shape) rest plan → Asks number above (line ++ rest) plan
   tells : {number : ℕ} {rest : List ℕ} {plan : Plan} (above : Above) (line body : List ℕ) (program : Program)
       → above.inside ≡ Some program → IsLine body line rest → body ≢ codes "endprogram"

@@ -1,6 +1,6 @@
 -- The words of a job's programs, and the first program that has none. This project's own.
 use Rattle.std.specs.Prelude.{◌≡◌, ◌≢◌, ℕ, ◌+◌, ◌-◌, ◌^◌, min, List, [], ◌∷◌, ◌++◌, map, Ok, Err}
-use Rattle.qpu_flow.specs.Code.{numbers_of}
+use Rattle.qpu_word.specs.Words.{numbers_of}
 use Rattle.qpu_token.specs.declared.fault.AsmFault.{AsmFault}
 use Rattle.qpu_token.specs.declared.fault.AsmKind.TheVariants as asm
 use Rattle.qpu_asm.specs.Assembly.{IsAssembly}

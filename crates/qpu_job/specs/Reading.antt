@@ -2,25 +2,25 @@
 use Rattle.std.specs.Prelude.{◌≡◌, ℕ, ◌+◌, ◌&&◌, Bool, true, false, List, [], ◌∷◌, Option, Some, None, is_none, codes, bytes_eq, Result, Ok, Err, if◌then◌else◌}
 use Rattle.qpu_job.specs.declared.fault.JobFault.{JobFault}
 use Rattle.qpu_job.specs.declared.fault.JobFault.TheVariants as fault
-use Rattle.qpu_job.specs.declared.cause.Cause.{Cause}
+use Rattle.qpu_job.specs.declared.reason.Reason.{Reason}
 use Rattle.qpu_job.specs.declared.stage.Stage.{Stage}
 use Rattle.qpu_job.specs.declared.stage.Stage.TheVariants.{Nothing, Opened, Sized, Limited}
 use Rattle.qpu_job.specs.Plan.{Plan, Program}
 use Rattle.qpu_job.specs.Lines.{lines, content}
-use Rattle.qpu_job.specs.Words.{words_of}
+use Rattle.qpu_job.specs.Words.{line_words}
 use Rattle.qpu_job.specs.Shapes.{Shape, shape_of}
 use Rattle.qpu_job.specs.Above.{Above, at_first, above_next, with_line, with_program}
-use Rattle.qpu_job.specs.Faults.{first_cause, fault_at}
+use Rattle.qpu_job.specs.Faults.{first_reason, fault_at}
 
 -- a line outside programs, of a shape or of none
 
-abbrev pub unless_fault : ℕ → Above → Shape → Option Cause → Result Above JobFault
+abbrev pub unless_fault : ℕ → Above → Shape → Option Reason → Result Above JobFault
 unless_fault number above shape None = Ok (above_next number above shape)
 unless_fault number above shape (Some cause) = Err (fault_at number cause)
 
 unfoldable pub after_shape : ℕ → Above → Option Shape → Result Above JobFault
 after_shape number above None = Err (fault.Line number)
-after_shape number above (Some shape) = unless_fault number above shape (first_cause above shape)
+after_shape number above (Some shape) = unless_fault number above shape (first_reason above shape)
 
 -- the line that ends a program: these letters alone
 abbrev pub is_end : List ℕ → Bool
@@ -28,7 +28,7 @@ is_end line = bytes_eq (content line) (codes "endprogram")
 
 -- a line outside programs
 unfoldable pub after_outside : ℕ → Above → List ℕ → Result Above JobFault
-after_outside number above line = after_shape number above (shape_of (words_of (content line)))
+after_outside number above line = after_shape number above (shape_of (line_words (content line)))
 
 -- a line inside of one
 unfoldable pub after_inside : Program → Above → List ℕ → Result Above JobFault
@@ -73,14 +73,14 @@ abbrev pub Fails : {Y : Type 0} → JobFault → Result Y JobFault → Type 0
 Fails fault.Memory due = Unit {0}
 Fails other due = due ≡ Err other
 
-abbrev pub Gives : {X Y : Type 0} → (X → Y) → Result X JobFault → Result Y JobFault → Type 0
-Gives view (Ok x) due = due ≡ Ok (view x)
-Gives view (Err fault) due = Fails fault due
+abbrev pub GivesJob : {X Y : Type 0} → (X → Y) → Result X JobFault → Result Y JobFault → Type 0
+GivesJob view (Ok x) due = due ≡ Ok (view x)
+GivesJob view (Err fault) due = Fails fault due
 
 -- the same of a call that changes what stands above
-abbrev pub Goes : Above → Result (Unit {0}) JobFault → Result Above JobFault → Type 0
-Goes next (Ok _) due = due ≡ Ok next
-Goes next (Err fault) due = Fails fault due
+abbrev pub GoesOn : Above → Result (Unit {0}) JobFault → Result Above JobFault → Type 0
+GoesOn next (Ok _) due = due ≡ Ok next
+GoesOn next (Err fault) due = Fails fault due
 
 -- the faults that reading tells
 abbrev pub IsReadFault : JobFault → Type 0

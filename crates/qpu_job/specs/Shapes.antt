@@ -2,7 +2,7 @@
 use Rattle.std.specs.Prelude.{ℕ, List, [], ◌∷◌, Option, Some, None, option_map, option_and_then, codes, bytes_eq, if◌then◌else◌}
 use Rattle.qpu_job.specs.declared.shape.Shape.{Shape as Told}
 use Rattle.qpu_job.specs.declared.shape.Shape.TheVariants as told
-use Rattle.qpu_job.specs.Words.{number_of, numbers_of, name_of}
+use Rattle.qpu_job.specs.Words.{number_of, line_numbers, name_of}
 
 -- what a line says
 pub data Shape : Type 0 where
@@ -32,7 +32,7 @@ limit_shape _ = None
 -- `data A V ..`, with at least one value
 unfoldable pub data_shape : List (List ℕ) → Option Shape
 data_shape (address ∷ value ∷ values) =
-    option_and_then (λ address. option_map (Data address) (numbers_of (value ∷ values))) (number_of address)
+    option_and_then (λ address. option_map (Data address) (line_numbers (value ∷ values))) (number_of address)
 data_shape _ = None
 
 -- `program NAME`

@@ -21,8 +21,8 @@ unfoldable pub words_between : List ℕ → List (List ℕ)
 words_between text = filter is_some_word (slice_split is_blank text)
 
 -- the words of a line
-abbrev pub words_of : List ℕ → List (List ℕ)
-words_of line = words_between (before_comment line)
+abbrev pub line_words : List ℕ → List (List ℕ)
+line_words line = words_between (before_comment line)
 
 -- decimal digits, or `0x` and hexadecimal digits, at least one
 abbrev pub is_number : List ℕ → Bool
@@ -34,10 +34,10 @@ number_of word =
     if is_number word && nat_lt (number_value word) (2 ^ 32) then Some (number_value word) else None
 
 -- the numbers that words write
-unfoldable pub numbers_of : List (List ℕ) → Option (List ℕ)
-numbers_of [] = Some []
-numbers_of (word ∷ words) =
-    option_and_then (λ number. option_map (λ numbers. number ∷ numbers) (numbers_of words)) (number_of word)
+unfoldable pub line_numbers : List (List ℕ) → Option (List ℕ)
+line_numbers [] = Some []
+line_numbers (word ∷ words) =
+    option_and_then (λ number. option_map (λ numbers. number ∷ numbers) (line_numbers words)) (number_of word)
 
 -- 1 to 32 letters, digits or `_`
 abbrev pub is_name : List ℕ → Bool

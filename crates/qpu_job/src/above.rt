@@ -4,17 +4,15 @@ ghost use Rattle.std.specs.Prelude.{◌≡◌, ◌+◌, ◌^◌, ◌<◌, ◌≤
 ghost use Rattle.qpu_job.specs.Plan.{program_of, programs_of};
 ghost use Rattle.qpu_job.specs.Shapes.{said};
 ghost use Rattle.qpu_job.specs.Above.{above_of, at_first, above_next, index_in, values_from, new_program, new_start};
-ghost use Rattle.qpu_job.specs.Faults.{first_cause};
+ghost use Rattle.qpu_job.specs.Faults.{first_reason};
 
 use crate::job::{Job, MOST_PROGRAMS, ProgramText, Value};
 use crate::shape::Shape;
 use crate::stage::Stage;
 use qpu_machine::Start;
 use qpu_word::NoMemory;
+use qpu_word::code::WORD_BYTES;
 use std::alloc::Global;
-
-/// Bytes of a word.
-pub(crate) const WORD_BYTES: u32 = 4;
 
 /// What stands above a line.
 #[derive(Debug, Drop)]
@@ -56,7 +54,7 @@ impl Above {
     ) -> Result<(), NoMemory>
         requires number { number + 1 < 2 ^ 32 }
         requires few { length self.old.job.programs.items ≤ MOST_PROGRAMS }
-        requires fits { first_cause (above_of self.old) (said shape) ≡ None }
+        requires fits { first_reason (above_of self.old) (said shape) ≡ None }
         ensures { OnOk result (above_of self.new ≡ above_next number (above_of self.old) (said shape.entry)) }
     {
         match shape {

@@ -1,6 +1,7 @@
 //! The programs of a job, checked.
 ghost use Rattle.std.specs.Prelude.{◌≡◌, ◌≤◌, All, IfSome, IfNone, IfOk, IfErr, OnOk, length, ◌++◌, ◌∷◌, []};
-ghost use Rattle.qpu_flow.specs.Code.{numbers_of, AllInProfile};
+ghost use Rattle.qpu_word.specs.Words.{numbers_of};
+ghost use Rattle.qpu_flow.specs.Code.{AllInProfile};
 ghost use Rattle.qpu_hazard.specs.Refusal.{NoneRefusable};
 ghost use Rattle.qpu_job.specs.declared.job.TheConstants.{MOST_PROGRAMS};
 ghost use Rattle.qpu_job.specs.Programs.{codes_of};

@@ -1,7 +1,7 @@
 //! The words of a job's programs.
 ghost use Rattle.std.specs.Prelude.{◌≡◌, ◌≤◌, length, IfOk, IfErr};
 ghost use Rattle.std.specs.List.{All};
-ghost use Rattle.qpu_flow.specs.Code.{numbers_of};
+ghost use Rattle.qpu_word.specs.Words.{numbers_of};
 ghost use Rattle.qpu_job.specs.Plan.{program_of, programs_of};
 ghost use Rattle.qpu_job.specs.ReadJob.{IsProgram};
 ghost use Rattle.qpu_job.specs.Programs.{line_in_job, fault_in_job, IsCode, IsCodeFault, HaveCodes, IsCodesFault, codes_of};

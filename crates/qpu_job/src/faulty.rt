@@ -4,41 +4,42 @@ ghost use Rattle.std.specs.Prelude.{◌≡◌, ◌+◌, ◌/◌, ◌%◌, ◌==�
 ghost use Rattle.std.specs.List.{list_any};
 ghost use Rattle.qpu_job.specs.Shapes.{said};
 ghost use Rattle.qpu_job.specs.Above.{above_of};
-ghost use Rattle.qpu_job.specs.Faults.{stands, has_wrong_size, is_too_much, is_twice, is_no_processor, is_no_program, is_no_place, first_cause};
+ghost use Rattle.qpu_job.specs.Faults.{stands, has_wrong_size, is_too_much, is_twice, is_no_processor, is_no_program, is_no_place, first_reason};
 
-use crate::above::{Above, WORD_BYTES, index_of};
-use crate::cause::Cause;
-use crate::job::{MOST_LIMIT, MOST_MEMORY, MOST_PROGRAMS, PROCESSORS};
+use crate::above::{Above, index_of};
+use crate::job::{MOST_MEMORY, MOST_PROGRAMS};
+use crate::reason::Reason;
 use crate::shape::Shape;
 use crate::stage::Stage;
 use qpu_machine::Start;
+use qpu_word::code::{LIMIT_MOST, PROCESSORS, WORD_BYTES};
 
 impl Above {
     /// Why a line of this shape fails: the first of the causes that hold.
-    #[tactic(auto, unfolding(crate::specs::Faults::first_cause))]
-    pub(crate) fn first_cause(&self, shape: &Shape<'_>) -> Option<Cause>
-        ensures { result ≡ first_cause (above_of self.now) (said shape.now) }
+    #[tactic(auto, unfolding(crate::specs::Faults::first_reason))]
+    pub(crate) fn first_reason(&self, shape: &Shape<'_>) -> Option<Reason>
+        ensures { result ≡ first_reason (above_of self.now) (said shape.now) }
     {
         if !stands(self.stage, shape) {
-            return Some(Cause::Line);
+            return Some(Reason::Line);
         }
         if has_wrong_size(shape) {
-            return Some(Cause::Size);
+            return Some(Reason::Size);
         }
         if self.is_too_much(shape) {
-            return Some(Cause::Limit);
+            return Some(Reason::Limit);
         }
         if self.is_twice(shape) {
-            return Some(Cause::Twice);
+            return Some(Reason::Twice);
         }
         if is_no_processor(shape) {
-            return Some(Cause::Processor);
+            return Some(Reason::Processor);
         }
         if self.is_no_program(shape) {
-            return Some(Cause::NoProgram);
+            return Some(Reason::NoProgram);
         }
         if self.is_no_place(shape) {
-            return Some(Cause::Place);
+            return Some(Reason::Place);
         }
         None
     }
@@ -48,7 +49,7 @@ impl Above {
         ensures { result ≡ is_too_much (above_of self.now) (said shape.now) }
     {
         match shape {
-            Shape::Limit(limit) => MOST_LIMIT < *limit,
+            Shape::Limit(limit) => LIMIT_MOST < *limit,
             Shape::Program(_) => MOST_PROGRAMS <= self.job.programs.len(),
             _ => false,
         }

@@ -5,17 +5,11 @@ use qpu_machine::Start;
 /// Words of the largest memory.
 pub const MOST_MEMORY: u32 = 1_048_576;
 
-/// The largest limit of instructions.
-pub const MOST_LIMIT: u32 = 1_000_000;
-
 /// How many programs a job has at most.
 pub const MOST_PROGRAMS: usize = 16;
 
 /// Bytes of the longest name.
 pub const MOST_NAME: usize = 32;
-
-/// How many processors there are.
-pub const PROCESSORS: u32 = 12;
 
 /// Bytes of the longest text of a job.
 pub const MOST_TEXT: usize = 268_435_456;

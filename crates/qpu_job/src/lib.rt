@@ -10,7 +10,6 @@
 
 mod above;
 mod bytes;
-mod cause;
 mod checking;
 mod code;
 mod fault;
@@ -21,15 +20,13 @@ mod line;
 mod making;
 mod number;
 mod reading;
+mod reason;
 mod shape;
 mod stage;
 mod word;
 
 pub use fault::JobFault;
-pub use job::{
-    Job, MOST_LIMIT, MOST_MEMORY, MOST_NAME, MOST_PROGRAMS, MOST_TEXT, PROCESSORS, ProgramText,
-    Value,
-};
+pub use job::{Job, MOST_MEMORY, MOST_NAME, MOST_PROGRAMS, MOST_TEXT, ProgramText, Value};
 pub use laws::{clean_jobs_are_accepted, one_refusal, read_jobs_may_open, reads_the_grammar};
 pub use making::make_machine;
 pub use reading::read_job;

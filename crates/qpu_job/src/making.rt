@@ -15,12 +15,12 @@ use arrayvec::ArrayVec;
 use qpu_hazard::Programs;
 use qpu_machine::{Machine, Start};
 use qpu_mem::Memory;
-use qpu_word::NoMemory;
+use qpu_word::{NoMemory, code};
 use std::alloc::Global;
 use std::sync::Arc;
 
 /// Processors of a machine.
-const PROCESSORS: usize = 12;
+const PROCESSORS: usize = code::PROCESSORS as usize;
 
 /// So many words, with these values: of two for one word the later stands.
 fn memory_of(alloc: Global, words: u32, values: &[Value]) -> Result<Memory, NoMemory>

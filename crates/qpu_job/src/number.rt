@@ -3,7 +3,7 @@
 ghost use Rattle.std.specs.Prelude.{◌≡◌, ◌≤◌, ◌^◌, ◌++◌, ◌∷◌, [], min, OnOk, IfOk, option_map};
 ghost use Rattle.std.specs.List.{list_all};
 ghost use Rattle.qpu_token.specs.Words.{is_digit, is_hex_digit, is_run, is_hexadecimal, value_in, number_value};
-ghost use Rattle.qpu_job.specs.Words.{is_number, number_of, numbers_of, texts_of};
+ghost use Rattle.qpu_job.specs.Words.{is_number, number_of, line_numbers, texts_of};
 
 use crate::bytes::{digit_of, is_digit, is_hex_digit};
 use qpu_word::NoMemory;
@@ -35,7 +35,7 @@ pub(crate) fn number_of(word: &[u8]) -> Option<u32>
 
 /// The numbers that words write; none where a word writes none.
 pub(crate) fn numbers_of(alloc: Global, words: &[&[u8]]) -> Result<Option<Vec<u32>>, NoMemory>
-    ensures { IfOk result (λ numbers. option_map (λ numbers. numbers.items) numbers ≡ numbers_of (texts_of words.now)) }
+    ensures { IfOk result (λ numbers. option_map (λ numbers. numbers.items) numbers ≡ line_numbers (texts_of words.now)) }
 {
     let mut numbers = Vec::new(alloc);
     for word in words {

@@ -5,7 +5,7 @@ ghost use Rattle.qpu_job.specs.Plan.{plan_of, program_of};
 ghost use Rattle.qpu_job.specs.Shapes.{said};
 ghost use Rattle.qpu_job.specs.Above.{above_of};
 ghost use Rattle.qpu_job.specs.ReadJob.{IsReadJob};
-ghost use Rattle.qpu_job.specs.Reading.{is_end, after_shape, after_outside, after_inside, after_line, is_limited, at_end, job_of, Gives, Goes, IsReadFault};
+ghost use Rattle.qpu_job.specs.Reading.{is_end, after_shape, after_outside, after_inside, after_line, is_limited, at_end, job_of, GivesJob, GoesOn, IsReadFault};
 
 use crate::above::Above;
 use crate::fault::JobFault;
@@ -22,7 +22,7 @@ use std::alloc::Global;
 #[tactic(auto, unfolding(crate::specs::Reading::job_of))]
 pub fn read_job(alloc: Global, text: &str) -> Result<Job, JobFault>
     requires { length text.now ≤ MOST_TEXT }
-    ensures answer { Gives plan_of result (job_of text.now) }
+    ensures answer { GivesJob plan_of result (job_of text.now) }
     ensures keeps { IfOk result (λ job. IsReadJob (plan_of job)) }
     ensures kinds { IfErr result IsReadFault }
 {
@@ -46,7 +46,7 @@ impl Above {
     fn after_line(&mut self, alloc: Global, number: u32, line: &str) -> Result<(), JobFault>
         requires number { number + 1 < 2 ^ 32 }
         requires few { length self.old.job.programs.items ≤ MOST_PROGRAMS }
-        ensures { Goes (above_of self.new) result (after_line number (above_of self.old) line.now) }
+        ensures { GoesOn (above_of self.new) result (after_line number (above_of self.old) line.now) }
     {
         match self.inside.take() {
             None => self.after_outside(alloc, number, line),
@@ -59,7 +59,7 @@ impl Above {
     fn after_outside(&mut self, alloc: Global, number: u32, line: &str) -> Result<(), JobFault>
         requires number { number + 1 < 2 ^ 32 }
         requires few { length self.old.job.programs.items ≤ MOST_PROGRAMS }
-        ensures { Goes (above_of self.new) result (after_outside number (above_of self.old) line.now) }
+        ensures { GoesOn (above_of self.new) result (after_outside number (above_of self.old) line.now) }
     {
         let words = words_of(alloc, content(line.as_bytes()))?;
         match shape_of(alloc, &words)? {
@@ -73,9 +73,9 @@ impl Above {
     fn after_shape(&mut self, alloc: Global, number: u32, shape: Shape<'_>) -> Result<(), JobFault>
         requires number { number + 1 < 2 ^ 32 }
         requires few { length self.old.job.programs.items ≤ MOST_PROGRAMS }
-        ensures { Goes (above_of self.new) result (after_shape number (above_of self.old) (Some (said shape.entry))) }
+        ensures { GoesOn (above_of self.new) result (after_shape number (above_of self.old) (Some (said shape.entry))) }
     {
-        match self.first_cause(&shape) {
+        match self.first_reason(&shape) {
             None => Ok(self.take(alloc, number, shape)?),
             Some(cause) => Err(cause.at(number)),
         }
@@ -85,7 +85,7 @@ impl Above {
     #[tactic(auto, unfolding(crate::specs::Reading::after_inside))]
     fn after_inside(&mut self, program: ProgramText, line: &str) -> Result<(), JobFault>
         requires { self.old.inside ≡ None }
-        ensures { Goes (above_of self.new) result (after_inside (program_of program) (above_of self.old) line.now) }
+        ensures { GoesOn (above_of self.new) result (after_inside (program_of program) (above_of self.old) line.now) }
     {
         let mut program = program;
         if is_end(line) {
@@ -99,7 +99,7 @@ impl Above {
     /// The job, at the end of the text; this is the line after the last.
     #[tactic(auto, unfolding(crate::specs::Reading::at_end))]
     fn at_end(self, number: u32) -> Result<Job, JobFault>
-        ensures { Gives plan_of result (at_end number (above_of self)) }
+        ensures { GivesJob plan_of result (at_end number (above_of self)) }
     {
         if !self.is_ended() {
             return Err(JobFault::Line(number));

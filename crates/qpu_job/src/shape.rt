@@ -3,7 +3,7 @@
 ghost use Rattle.std.specs.Prelude.{◌≡◌, ◌∷◌, true, IfOk, option_map, option_copied, bytes_eq};
 ghost use Rattle.std.specs.List.{list_all};
 ghost use Rattle.qpu_token.specs.Words.{is_name_byte};
-ghost use Rattle.qpu_job.specs.Words.{texts_of, name_of, numbers_of};
+ghost use Rattle.qpu_job.specs.Words.{texts_of, name_of, line_numbers};
 ghost use Rattle.qpu_job.specs.Shapes.{said, Data, opening_shape, memory_shape, limit_shape, data_shape, program_shape, start_shape, shape_of};
 
 use crate::number::{number_of, numbers_of};
@@ -128,7 +128,7 @@ fn values_at<'a>(
     address: u32,
     values: &[&'a [u8]],
 ) -> Result<Option<Shape<'a>>, NoMemory>
-    ensures { IfOk result (λ shape. option_map said shape ≡ option_map (Data address) (numbers_of (texts_of values.now))) }
+    ensures { IfOk result (λ shape. option_map said shape ≡ option_map (Data address) (line_numbers (texts_of values.now))) }
 {
     match numbers_of(alloc, values)? {
         None => Ok(None),

@@ -3,7 +3,7 @@
 ghost use Rattle.std.specs.Prelude.{◌≡◌, ◌∷◌, [], ◌++◌, ◌<◌, length, IfOk, IfSome, OnOk, MatchOption, position, filter};
 ghost use Rattle.std.specs.List.{list_all};
 ghost use Rattle.qpu_token.specs.Words.{is_blank, is_name_byte};
-ghost use Rattle.qpu_job.specs.Words.{is_hash, is_some_word, before_comment, words_between, words_of, is_name, texts_of};
+ghost use Rattle.qpu_job.specs.Words.{is_hash, is_some_word, before_comment, words_between, line_words, is_name, texts_of};
 
 use crate::bytes::{is_blank, is_name_byte};
 use crate::job::MOST_NAME;
@@ -12,7 +12,7 @@ use std::alloc::Global;
 
 /// The words of a line: what stands between spaces and tabs, without its comment.
 pub(crate) fn words_of(alloc: Global, line: &[u8]) -> Result<Vec<&[u8]>, NoMemory>
-    ensures { IfOk result (λ words. texts_of words.items ≡ words_of line.now) }
+    ensures { IfOk result (λ words. texts_of words.items ≡ line_words line.now) }
 {
     words_between(alloc, before_comment(line))
 }

@@ -6,17 +6,17 @@ use Rattle.qpu_word.specs.declared.name.Place.{Place}
 use Rattle.qpu_word.specs.declared.name.Place.TheVariants.{Both, FileA, FileB}
 use Rattle.qpu_word.specs.Words.{is_write_address, is_link_address}
 use Rattle.qpu_word.specs.Canonical.{file_matters}
-use Rattle.qpu_line.specs.Targets.{target_of, address_of, in_file_a, in_file_b}
+use Rattle.qpu_line.specs.Targets.{target_at_address, address_of, in_file_a, in_file_b}
 use Rattle.qpu_line.specs.Worded.{IsTarget}
 
 -- targets whose file is told matter
-b_matters : (matters in_b : Bool) (a : ℕ) → file_matters a ≡ matters → target_of in_b a ≡ FileB a → matters ≡ true
-unfolding target_of
+b_matters : (matters in_b : Bool) (a : ℕ) → file_matters a ≡ matters → target_at_address in_b a ≡ FileB a → matters ≡ true
+unfolding target_at_address
 b_matters true in_b a is to = refl
 b_matters false in_b a is to = absurd (grind (arith, is, to))
 
-a_matters : (matters in_b : Bool) (a : ℕ) → file_matters a ≡ matters → target_of in_b a ≡ FileA a → matters ≡ true
-unfolding target_of
+a_matters : (matters in_b : Bool) (a : ℕ) → file_matters a ≡ matters → target_at_address in_b a ≡ FileA a → matters ≡ true
+unfolding target_at_address
 a_matters true in_b a is to = refl
 a_matters false in_b a is to = absurd (grind (arith, is, to))
 

@@ -16,7 +16,7 @@ use Rattle.qpu_line.specs.declared.instruction.Instruction.TheVariants.{Both}
 use Rattle.qpu_word.specs.Canonical.{IsCanonical}
 use Rattle.qpu_line.specs.Canonical.{canonical_instruction}
 use Rattle.qpu_line.specs.Instructions.{instruction_of, word_of}
-use Rattle.qpu_line.specs.Slots.{unit_fields, unit_word, unit_high, unit_low}
+use Rattle.qpu_line.specs.Slots.{unit_fields, units_word, unit_high, units_low}
 use Rattle.qpu_line.specs.Targets.{address_of}
 use Rattle.qpu_line.specs.Units.{operand_of, part_of, units_of, fields_of_units, mux_of, op_of, cond_of, to_of, first_of, second_of, small_signal, over, signal_code}
 use Rattle.qpu_line.specs.Both.{InRange, IsOperand, IsPart, IsBoth}
@@ -131,11 +131,11 @@ whole u is = record {
 halves : (high low : ℕ) → low < 2 ^ 32 → (high * 2 ^ 32 + low) / 2 ^ 32 ≡ high
 halves high low below = omega arith
 
-low_below : (s : UnitFields) → unit_low s < 2 ^ 32
+low_below : (s : UnitFields) → units_low s < 2 ^ 32
 low_below s = omega arith
 
-pub fields_again : (s : UnitFields) → IsWhole s → unit_fields (fields_of (unit_word s)) ≡ s
-unfolding unit_word
+pub fields_again : (s : UnitFields) → IsWhole s → unit_fields (fields_of (units_word s)) ≡ s
+unfolding units_word
 fields_again s h =
     let sig : s.sig < 16 = h.sig in
     let unpack : s.unpack < 8 = h.range.unpack in
@@ -154,23 +154,23 @@ fields_again s h =
     let add_b : s.add_b < 8 = h.add_b in
     let mul_a : s.mul_a < 8 = h.mul_a in
     let mul_b : s.mul_b < 8 = h.mul_b in
-    let e_sig : field (unit_high s * 2 ^ 32 + unit_low s) 60 4 ≡ s.sig = omega arith in
-    let e_unpack : field (unit_high s * 2 ^ 32 + unit_low s) 57 3 ≡ s.unpack = omega arith in
-    let e_pack : field (unit_high s * 2 ^ 32 + unit_low s) 52 4 ≡ s.pack = omega arith in
-    let e_cond_add : field (unit_high s * 2 ^ 32 + unit_low s) 49 3 ≡ s.cond_add = omega arith in
-    let e_cond_mul : field (unit_high s * 2 ^ 32 + unit_low s) 46 3 ≡ s.cond_mul = omega arith in
-    let e_sf : field (unit_high s * 2 ^ 32 + unit_low s) 45 1 ≡ s.sf = omega arith in
-    let e_ws : field (unit_high s * 2 ^ 32 + unit_low s) 44 1 ≡ s.ws = omega arith in
-    let e_waddr_add : field (unit_high s * 2 ^ 32 + unit_low s) 38 6 ≡ s.waddr_add = omega arith in
-    let e_waddr_mul : field (unit_high s * 2 ^ 32 + unit_low s) 32 6 ≡ s.waddr_mul = omega arith in
-    let e_op_mul : field (unit_high s * 2 ^ 32 + unit_low s) 29 3 ≡ s.op_mul = omega arith in
-    let e_op_add : field (unit_high s * 2 ^ 32 + unit_low s) 24 5 ≡ s.op_add = omega arith in
-    let e_raddr_a : field (unit_high s * 2 ^ 32 + unit_low s) 18 6 ≡ s.raddr_a = omega arith in
-    let e_raddr_b : field (unit_high s * 2 ^ 32 + unit_low s) 12 6 ≡ s.raddr_b = omega arith in
-    let e_add_a : field (unit_high s * 2 ^ 32 + unit_low s) 9 3 ≡ s.add_a = omega arith in
-    let e_add_b : field (unit_high s * 2 ^ 32 + unit_low s) 6 3 ≡ s.add_b = omega arith in
-    let e_mul_a : field (unit_high s * 2 ^ 32 + unit_low s) 3 3 ≡ s.mul_a = omega arith in
-    let e_mul_b : field (unit_high s * 2 ^ 32 + unit_low s) 0 3 ≡ s.mul_b = omega arith in
+    let e_sig : field (unit_high s * 2 ^ 32 + units_low s) 60 4 ≡ s.sig = omega arith in
+    let e_unpack : field (unit_high s * 2 ^ 32 + units_low s) 57 3 ≡ s.unpack = omega arith in
+    let e_pack : field (unit_high s * 2 ^ 32 + units_low s) 52 4 ≡ s.pack = omega arith in
+    let e_cond_add : field (unit_high s * 2 ^ 32 + units_low s) 49 3 ≡ s.cond_add = omega arith in
+    let e_cond_mul : field (unit_high s * 2 ^ 32 + units_low s) 46 3 ≡ s.cond_mul = omega arith in
+    let e_sf : field (unit_high s * 2 ^ 32 + units_low s) 45 1 ≡ s.sf = omega arith in
+    let e_ws : field (unit_high s * 2 ^ 32 + units_low s) 44 1 ≡ s.ws = omega arith in
+    let e_waddr_add : field (unit_high s * 2 ^ 32 + units_low s) 38 6 ≡ s.waddr_add = omega arith in
+    let e_waddr_mul : field (unit_high s * 2 ^ 32 + units_low s) 32 6 ≡ s.waddr_mul = omega arith in
+    let e_op_mul : field (unit_high s * 2 ^ 32 + units_low s) 29 3 ≡ s.op_mul = omega arith in
+    let e_op_add : field (unit_high s * 2 ^ 32 + units_low s) 24 5 ≡ s.op_add = omega arith in
+    let e_raddr_a : field (unit_high s * 2 ^ 32 + units_low s) 18 6 ≡ s.raddr_a = omega arith in
+    let e_raddr_b : field (unit_high s * 2 ^ 32 + units_low s) 12 6 ≡ s.raddr_b = omega arith in
+    let e_add_a : field (unit_high s * 2 ^ 32 + units_low s) 9 3 ≡ s.add_a = omega arith in
+    let e_add_b : field (unit_high s * 2 ^ 32 + units_low s) 6 3 ≡ s.add_b = omega arith in
+    let e_mul_a : field (unit_high s * 2 ^ 32 + units_low s) 3 3 ≡ s.mul_a = omega arith in
+    let e_mul_b : field (unit_high s * 2 ^ 32 + units_low s) 0 3 ≡ s.mul_b = omega arith in
     λ i. record {
       sig = e_sig i;
       unpack = e_unpack i;
@@ -201,15 +201,15 @@ read_as f true small is_a is_s unit = rw is_a refl
 read_as f false true is_a is_s unit = rw (is_a, is_s) refl
 read_as f false false is_a is_s unit = absurd (none_there (is_alu f) (is_small f) is_a is_s unit)
 
-pub unit_there : (u : Units) → IsBoth u → is_unit_word (fields_of (unit_word (fields_of_units u))) ≡ true
+pub unit_there : (u : Units) → IsBoth u → is_unit_word (fields_of (units_word (fields_of_units u))) ≡ true
 unit_there u is =
-    let e : unit_fields (fields_of (unit_word (fields_of_units u))) ≡ fields_of_units u = fields_again (fields_of_units u) (whole u is) in
+    let e : unit_fields (fields_of (units_word (fields_of_units u))) ≡ fields_of_units u = fields_again (fields_of_units u) (whole u is) in
     ap (λ s. is_unit_signal s.sig) e ∙ units_signal u
 
 pub both_again : (u : Units) → IsBoth u → IsCanonical (word_of (Both u)) → canonical_instruction (word_of (Both u)) ≡ Some (Both u)
 unfolding word_of
 both_again u is c =
-    let w : ℕ = unit_word (fields_of_units u) in
+    let w : ℕ = units_word (fields_of_units u) in
     read_of_canonical w c
     ∙ (ap (λ t. Some t) (read_as (fields_of w) (is_alu (fields_of w)) (is_small (fields_of w)) refl refl (unit_there u is))
     ∙ (ap (λ s. Some (Both (units_of s))) (fields_again (fields_of_units u) (whole u is)) ∙ ap (λ t. Some (Both t)) (units_again u is)))

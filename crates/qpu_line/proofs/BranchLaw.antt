@@ -11,7 +11,7 @@ use Rattle.qpu_word.specs.Canonical.{file_matters, keeps_rules, add_rule, mul_ru
 use Rattle.qpu_line.specs.Canonical.{canonical_instruction}
 use Rattle.qpu_line.specs.Instructions.{instruction_of, word_of}
 use Rattle.qpu_line.specs.Targets.{address_of, exchange_of, in_file_a, in_file_b}
-use Rattle.qpu_line.specs.Branches.{branch_of, branch_word, register_of, register_row}
+use Rattle.qpu_line.specs.Branches.{branch_of, branch_instruction_word, register_of, register_row}
 use Rattle.qpu_line.specs.Worded.{IsBranch, IsTarget}
 use Rattle.qpu_line.proofs.AgainLemmas.{matters_in_a, matters_in_b, exchange_by, link_below, link_writes, bit_below, sets_again}
 
@@ -125,8 +125,8 @@ branch_again b w is h =
 pub branches_again : (b : BranchOf) → IsBranch b → canonical_instruction (word_of (Branch b)) ≡ Some (Branch b)
 unfolding word_of
 branches_again b is =
-    let h : HasFields (branch_word b) b.cond (if b.relative then 1 else 0) (if is_some b.register then 1 else 0) (register_row b.register) (exchange_of b.add b.mul) (address_of b.add) (address_of b.mul) b.immediate =
+    let h : HasFields (branch_instruction_word b) b.cond (if b.relative then 1 else 0) (if is_some b.register then 1 else 0) (register_row b.register) (exchange_of b.add b.mul) (address_of b.add) (address_of b.mul) b.immediate =
     fields_are b.cond (if b.relative then 1 else 0) (if is_some b.register then 1 else 0) (register_row b.register) (exchange_of b.add b.mul) (address_of b.add) (address_of b.mul) b.immediate
     is.cond (bit_below b.relative) (bit_below (is_some b.register)) (row_below b.register is.row) (bit_below _) (link_below (address_of b.add) is.add) (link_below (address_of b.mul) is.mul) is.immediate in
-    read (branch_word b) b.cond (if b.relative then 1 else 0) (if is_some b.register then 1 else 0) (register_row b.register) (exchange_of b.add b.mul) (address_of b.add) (address_of b.mul) b.immediate h (said b is)
-    ∙ ap (λ t. Some (Branch t)) (branch_again b (branch_word b) is h)
+    read (branch_instruction_word b) b.cond (if b.relative then 1 else 0) (if is_some b.register then 1 else 0) (register_row b.register) (exchange_of b.add b.mul) (address_of b.add) (address_of b.mul) b.immediate h (said b is)
+    ∙ ap (λ t. Some (Branch t)) (branch_again b (branch_instruction_word b) is h)

@@ -10,10 +10,10 @@ use Rattle.qpu_line.specs.declared.slots.UnitFields.{UnitFields}
 use Rattle.qpu_line.specs.declared.instruction.Instruction.{Instruction}
 use Rattle.qpu_line.specs.declared.instruction.Instruction.TheVariants.{Both, Load, Semaphore, Branch}
 use Rattle.qpu_line.specs.Instructions.{word_of}
-use Rattle.qpu_line.specs.Slots.{unit_word}
+use Rattle.qpu_line.specs.Slots.{units_word}
 use Rattle.qpu_line.specs.Units.{fields_of_units}
 use Rattle.qpu_line.specs.Loads.{load_high, kind_code, write_target}
-use Rattle.qpu_line.specs.Branches.{branch_high}
+use Rattle.qpu_line.specs.Branches.{branch_instruction_high}
 use Rattle.qpu_line.specs.Semaphores.{semaphore_high, semaphore_low, semaphore_word}
 use Rattle.qpu_line.specs.Targets.{exchange_of}
 use Rattle.qpu_line.specs.Named.{HasWord}
@@ -23,8 +23,8 @@ use Rattle.qpu_line.proofs.AgainLemmas.{bit_below}
 halves_fit : (high low : ℕ) → high < 2 ^ 32 → low < 2 ^ 32 → high * 2 ^ 32 + low < 2 ^ 64
 halves_fit high low h l = omega arith
 
-units_fit : (s : UnitFields) → unit_word s < 2 ^ 64
-unfolding unit_word
+units_fit : (s : UnitFields) → units_word s < 2 ^ 64
+unfolding units_word
 units_fit s = omega arith
 
 code_below : (kind : LoadKind) → kind_code kind < 8
@@ -39,7 +39,7 @@ load_fits l =
     let exchange : exchange_of (write_target l.add) (write_target l.mul) < 2 = bit_below _ in
     omega arith
 
-branch_fits : (b : BranchOf) → branch_high b < 2 ^ 32
+branch_fits : (b : BranchOf) → branch_instruction_high b < 2 ^ 32
 branch_fits b =
     let relative : (if b.relative then 1 else 0) < 2 = bit_below b.relative in
     let register : (if is_some b.register then 1 else 0) < 2 = bit_below (is_some b.register) in
@@ -58,4 +58,4 @@ unfolding word_of
 each_fits (Both u) has = units_fit (fields_of_units u)
 each_fits (Load l) has = halves_fit (load_high l) l.immediate (load_fits l) has.immediate
 each_fits (Semaphore s) has = semaphore_fits s
-each_fits (Branch b) has = halves_fit (branch_high b) b.immediate (branch_fits b) has.immediate
+each_fits (Branch b) has = halves_fit (branch_instruction_high b) b.immediate (branch_fits b) has.immediate

@@ -8,7 +8,7 @@ use Rattle.qpu_line.specs.declared.part.Part.{Part}
 use Rattle.qpu_line.specs.declared.operand.Operand.TheVariants.{Small, FileB}
 use Rattle.qpu_line.specs.declared.units.Signal.TheVariants.{Nothing, End, Load0, Load1, Rotate}
 use Rattle.qpu_line.specs.declared.slots.UnitFields.{UnitFields}
-use Rattle.qpu_line.specs.Targets.{target_of}
+use Rattle.qpu_line.specs.Targets.{target_at_address}
 use Rattle.qpu_line.specs.Units.{operand_of, part_of, part_to, part_uses, any_uses, signal_of, units_of}
 use Rattle.qpu_line.specs.Both.{IsOperand, IsPart, IsHeld, IsBoth}
 use Rattle.qpu_line.specs.Named.{is_turned, IsAddPart, IsMulPart, CanTurn, IsNamedSignal, IsOther, IsNamed}
@@ -136,7 +136,7 @@ operand_by s x true six is_low is_six = rw is_low (grind (arith, nat_tests, is_l
 operand_by s x false true is_low is_six = rw (is_low, is_six) (refl, refl)
 operand_by s x false false is_low is_six = rw (is_low, is_six) (b_held s (s.sig == 13) refl)
 
-part_held : (s : UnitFields) (in_b : Bool) (op cond address x y : ℕ) → idle op cond ≡ false → IsPart s in_b (part_to s (target_of in_b address) op cond x y)
+part_held : (s : UnitFields) (in_b : Bool) (op cond address x y : ℕ) → idle op cond ≡ false → IsPart s in_b (part_to s (target_at_address in_b address) op cond x y)
 part_held s in_b op cond address x y is = record {
   acts = is;
   target = is_target in_b address;

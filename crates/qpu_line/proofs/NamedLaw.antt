@@ -8,7 +8,7 @@ use Rattle.qpu_line.specs.declared.instruction.Instruction.TheVariants.{Both}
 use Rattle.qpu_word.specs.Canonical.{IsCanonical}
 use Rattle.qpu_line.specs.Canonical.{canonical_instruction}
 use Rattle.qpu_line.specs.Instructions.{word_of}
-use Rattle.qpu_line.specs.Slots.{unit_word}
+use Rattle.qpu_line.specs.Slots.{units_word}
 use Rattle.qpu_line.specs.Units.{any_uses, units_of, fields_of_units}
 use Rattle.qpu_line.specs.Both.{IsBoth}
 use Rattle.qpu_line.specs.Named.{IsNamed}
@@ -73,14 +73,14 @@ said u is named =
     said_by s (whole u is) (units_signal u) (comes_back s (ap fields_of_units same)) n (sources s n)
 
 -- the packing's unit isn't chosen
-no_pm : (s : UnitFields) → field (unit_word s) 56 1 ≡ 0
-unfolding unit_word
+no_pm : (s : UnitFields) → field (units_word s) 56 1 ≡ 0
+unfolding units_word
 no_pm s = omega arith
 
 pub units_canonical : (u : Units) → IsBoth u → IsNamed u → IsCanonical (word_of (Both u))
 unfolding word_of
 units_canonical u is named =
-    canonical_of_said (unit_word (fields_of_units u)) (no_pm (fields_of_units u)) (units_there _ (unit_there u is))
+    canonical_of_said (units_word (fields_of_units u)) (no_pm (fields_of_units u)) (units_there _ (unit_there u is))
     (subst IsSaid (sym (fields_again (fields_of_units u) (whole u is))) (said u is named))
 
 pub named_again : (u : Units) → IsBoth u → IsNamed u → canonical_instruction (word_of (Both u)) ≡ Some (Both u)

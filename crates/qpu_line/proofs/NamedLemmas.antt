@@ -6,7 +6,7 @@ use Rattle.qpu_word.specs.Words.{between, is_read_address}
 use Rattle.qpu_word.specs.Operations.{add_op, mul_op}
 use Rattle.qpu_line.specs.declared.part.Part.{Part}
 use Rattle.qpu_line.specs.declared.slots.UnitFields.{UnitFields}
-use Rattle.qpu_line.specs.Targets.{target_of, address_of, exchange_of}
+use Rattle.qpu_line.specs.Targets.{target_at_address, address_of, exchange_of}
 use Rattle.qpu_line.specs.Units.{part_of, part_to, any_uses, signal_of, other_read, units_of, unpack_of, small_signal, over, op_of, cond_of, to_of, first_of, second_of, pack_of, signal_code, fields_of_units}
 use Rattle.qpu_line.specs.Named.{is_source, IsAddPart, IsMulPart, IsNamedSignal, IsOther, IsNamed}
 use Rattle.qpu_line.proofs.UnitLemmas.{IsTidy, SaysNothing, idle}
@@ -58,11 +58,11 @@ tidy_by false p op cond address x y o c t a b is = absurd (grind (arith, is))
 
 pub add_tidy : (s : UnitFields) → ComesBack s → IsTidy s.op_add s.cond_add s.waddr_add s.add_a s.add_b
 unfolding part_of
-add_tidy s c = tidy_by (idle s.op_add s.cond_add) (part_to s (target_of (s.ws == 1) s.waddr_add) s.op_add s.cond_add s.add_a s.add_b) _ _ _ _ _ c.op_add c.cond_add c.waddr_add c.add_a c.add_b
+add_tidy s c = tidy_by (idle s.op_add s.cond_add) (part_to s (target_at_address (s.ws == 1) s.waddr_add) s.op_add s.cond_add s.add_a s.add_b) _ _ _ _ _ c.op_add c.cond_add c.waddr_add c.add_a c.add_b
 
 pub mul_tidy : (s : UnitFields) → ComesBack s → IsTidy s.op_mul s.cond_mul s.waddr_mul s.mul_a s.mul_b
 unfolding part_of
-mul_tidy s c = tidy_by (idle s.op_mul s.cond_mul) (part_to s (target_of (not (s.ws == 1)) s.waddr_mul) s.op_mul s.cond_mul s.mul_a s.mul_b) _ _ _ _ _ c.op_mul c.cond_mul c.waddr_mul c.mul_a c.mul_b
+mul_tidy s c = tidy_by (idle s.op_mul s.cond_mul) (part_to s (target_at_address (not (s.ws == 1)) s.waddr_mul) s.op_mul s.cond_mul s.mul_a s.mul_b) _ _ _ _ _ c.op_mul c.cond_mul c.waddr_mul c.mul_a c.mul_b
 
 -- a unit acts where it isn't idle
 not_either : (a b : Bool) → (not a && not b) ≡ not (a || b)
@@ -78,10 +78,10 @@ there P true p named is = absurd (grind (arith, is))
 there P false p named is = named
 
 abbrev pub add_there : UnitFields → Part
-add_there s = part_to s (target_of (s.ws == 1) s.waddr_add) s.op_add s.cond_add s.add_a s.add_b
+add_there s = part_to s (target_at_address (s.ws == 1) s.waddr_add) s.op_add s.cond_add s.add_a s.add_b
 
 abbrev pub mul_there : UnitFields → Part
-mul_there s = part_to s (target_of (not (s.ws == 1)) s.waddr_mul) s.op_mul s.cond_mul s.mul_a s.mul_b
+mul_there s = part_to s (target_at_address (not (s.ws == 1)) s.waddr_mul) s.op_mul s.cond_mul s.mul_a s.mul_b
 
 -- an instruction's parts and signal, by its fields
 pub record IsNamedBy (s : UnitFields) : Type 0 where

@@ -6,10 +6,10 @@ use Rattle.qpu_word.specs.declared.word.Fields.{Fields}
 use Rattle.qpu_word.specs.Words.{field, fields_of, is_load}
 use Rattle.qpu_word.proofs.ProfileLemmas.{field_below}
 use Rattle.qpu_word.specs.Canonical.{semaphore_rule, branch_rule, load_rule, exchange_rule}
-use Rattle.qpu_line.specs.Targets.{target_of}
+use Rattle.qpu_line.specs.Targets.{target_at_address}
 use Rattle.qpu_line.specs.Semaphores.{semaphore_of, semaphore_word}
 use Rattle.qpu_line.specs.Loads.{load_of, load_word, kind_of, kind_code, write_of, write_cond, write_target}
-use Rattle.qpu_line.specs.Branches.{branch_of, branch_word, register_of, register_row}
+use Rattle.qpu_line.specs.Branches.{branch_of, branch_instruction_word, register_of, register_row}
 use Rattle.qpu_line.proofs.TargetLemmas.{address_back, exchange_back, exchange_kept, bit_back}
 
 -- semaphores
@@ -55,7 +55,7 @@ branch_sum : (w : ℕ) → w < 2 ^ 64 → field w 60 4 ≡ 15 → field w 57 3 �
 branch_sum w below sig kind pm = omega arith
 
 pub branch_back : (w : ℕ) → w < 2 ^ 64 → field w 60 4 ≡ 15 → field w 56 1 ≡ 0 → branch_rule (fields_of w) ≡ true → exchange_rule (fields_of w) ≡ true
-    → branch_word (branch_of (fields_of w)) ≡ w
+    → branch_instruction_word (branch_of (fields_of w)) ≡ w
 branch_back w below sig pm rule exchange =
     let s : (field w 57 3 ≡ 0) × ((field w 50 1 == 1) ≡ false → field w 45 5 ≡ 0) = branch_silent (fields_of w) sig rule in
     rw (
@@ -87,8 +87,8 @@ unfolding SaysOnce
 cond_by true in_b cond address is once = rw is (sym (once is).0)
 cond_by false in_b cond address is once = rw is refl
 
-pub target_by : (idle in_b : Bool) (cond address : ℕ) → ((cond == 0) || (address == 39)) ≡ idle → SaysOnce cond address → write_target (write_of cond in_b address) ≡ target_of in_b address
-unfolding SaysOnce target_of
+pub target_by : (idle in_b : Bool) (cond address : ℕ) → ((cond == 0) || (address == 39)) ≡ idle → SaysOnce cond address → write_target (write_of cond in_b address) ≡ target_at_address in_b address
+unfolding SaysOnce target_at_address
 target_by true in_b cond address is once = rw (is, (once is).1) refl
 target_by false in_b cond address is once = rw is refl
 

@@ -6,7 +6,7 @@ use Rattle.qpu_word.specs.declared.fault.WordFault.TheVariants.{Signal, WriteAdd
 use Rattle.qpu_word.specs.Words.{fields_of, has_fault, all_faults, word_fault, IsInProfile, is_load, is_branch, is_write_address, is_link_address, between, add_active, mul_active}
 use Rattle.qpu_word.proofs.ProfileLemmas.{every_row, field_below}
 use Rattle.qpu_word.specs.Canonical.{IsCanonical}
-use Rattle.qpu_line.specs.Targets.{target_of, exchange_of}
+use Rattle.qpu_line.specs.Targets.{target_at_address, exchange_of}
 use Rattle.qpu_line.specs.Loads.{load_of, write_of, write_target}
 use Rattle.qpu_line.specs.Branches.{branch_of, register_of}
 use Rattle.qpu_line.specs.Worded.{IsLoad, IsWrite, IsBranch}
@@ -47,7 +47,7 @@ mul_writes_named f is none some =
     some
 
 write_by : (never nowhere in_b : Bool) (cond address : ℕ) → (cond == 0) ≡ never → (address == 39) ≡ nowhere → cond < 8 → (not never ≡ true → is_write_address address ≡ true)
-    → IfSome (if never || nowhere then None else Some (record { cond = cond; to = target_of in_b address })) IsWrite
+    → IfSome (if never || nowhere then None else Some (record { cond = cond; to = target_at_address in_b address })) IsWrite
 write_by true nowhere in_b cond address is_never at below named = tt
 write_by false true in_b cond address is_never at below named = tt
 write_by false false in_b cond address is_never at below named = record {
@@ -61,9 +61,9 @@ pub load_named : (w : ℕ) → (fields_of w).sig ≡ 14 → is_load (fields_of w
 load_named w sig is c =
     let f : Fields = fields_of w in
     let once : SaysOnce f.cond_add f.waddr_add × SaysOnce f.cond_mul f.waddr_mul = says_once f sig is c.loads in
-    let add : write_target (write_of f.cond_add (f.ws == 1) f.waddr_add) ≡ target_of (f.ws == 1) f.waddr_add = target_by _ (f.ws == 1) f.cond_add f.waddr_add refl once.0 in
-    let mul : write_target (write_of f.cond_mul (not (f.ws == 1)) f.waddr_mul) ≡ target_of (not (f.ws == 1)) f.waddr_mul = target_by _ (not (f.ws == 1)) f.cond_mul f.waddr_mul refl once.1 in
-    let ws : exchange_of (target_of (f.ws == 1) f.waddr_add) (target_of (not (f.ws == 1)) f.waddr_mul) ≡ f.ws =
+    let add : write_target (write_of f.cond_add (f.ws == 1) f.waddr_add) ≡ target_at_address (f.ws == 1) f.waddr_add = target_by _ (f.ws == 1) f.cond_add f.waddr_add refl once.0 in
+    let mul : write_target (write_of f.cond_mul (not (f.ws == 1)) f.waddr_mul) ≡ target_at_address (not (f.ws == 1)) f.waddr_mul = target_by _ (not (f.ws == 1)) f.cond_mul f.waddr_mul refl once.1 in
+    let ws : exchange_of (target_at_address (f.ws == 1) f.waddr_add) (target_at_address (not (f.ws == 1)) f.waddr_mul) ≡ f.ws =
     exchange_back f.ws f.waddr_add f.waddr_mul (field_below w 44 1) (exchange_kept f c.exchange) in
     record {
       add = write_by (f.cond_add == 0) (f.waddr_add == 39) (f.ws == 1) f.cond_add f.waddr_add refl refl (field_below w 49 3) (add_writes_named f is (no_write w c.inside));
@@ -104,7 +104,7 @@ pub branch_named : (w : ℕ) → is_branch (fields_of w) ≡ true → IsCanonica
 branch_named w is c =
     let f : Fields = fields_of w in
     let linked : BothLink (is_link_address f.waddr_add) (is_link_address f.waddr_mul) = links f is (no_write w c.inside) in
-    let ws : exchange_of (target_of (f.ws == 1) f.waddr_add) (target_of (not (f.ws == 1)) f.waddr_mul) ≡ f.ws =
+    let ws : exchange_of (target_at_address (f.ws == 1) f.waddr_add) (target_at_address (not (f.ws == 1)) f.waddr_mul) ≡ f.ws =
     exchange_back f.ws f.waddr_add f.waddr_mul (field_below w 44 1) (exchange_kept f c.exchange) in
     record {
       cond = field_below w 52 4;

@@ -7,7 +7,7 @@ use Rattle.qpu_word.specs.Operations.{add_op, mul_op}
 use Rattle.qpu_line.specs.declared.part.Part.{Part}
 use Rattle.qpu_line.specs.declared.slots.UnitFields.{UnitFields}
 use Rattle.qpu_word.specs.Canonical.{unit_rule}
-use Rattle.qpu_line.specs.Targets.{target_of, is_row_a}
+use Rattle.qpu_line.specs.Targets.{target_at_address, is_row_a}
 use Rattle.qpu_line.specs.Units.{operand_of, part_to, any_uses}
 use Rattle.qpu_line.specs.Named.{is_unpack_at, IsNamedPart, IsAddPart, IsMulPart}
 use Rattle.qpu_line.proofs.TargetLemmas.{address_back}
@@ -93,14 +93,14 @@ known_by false rest none = refl
 
 part_named : (s : UnitFields) (in_b : Bool) (op cond address x y : ℕ) → IsWhole s → IsSaid s → cond < 8 → x < 8 → y < 8 → idle op cond ≡ false
     → unit_rule (acts op cond) op cond address x y ≡ true → (acts op cond && not (is_write_address address)) ≡ false → part_sources s op cond x y
-    → IsNamedPart (part_to s (target_of in_b address) op cond x y)
+    → IsNamedPart (part_to s (target_at_address in_b address) op cond x y)
 part_named s in_b op cond address x y h d below xs ys is rule named from =
     let both : Sources s ((x == 6) || (y == 6)) ((x == 7) || (y == 7)) = operand_sources s op cond x y is from in
     record {
       cond = cond_by op cond below is;
       always = (λ at. rule_by (acts op cond) op cond address x y (acting op cond is) rule (rw (address_back in_b address) at at));
       to = rw (address_back in_b address) (to_by (acts op cond) (is_write_address address) (acting op cond is) named);
-      pack = pack_by (is_row_a (target_of in_b address)) s.pack h.range.pack (known_by (s.pack == 8) _ d.packing);
+      pack = pack_by (is_row_a (target_at_address in_b address)) s.pack h.range.pack (known_by (s.pack == 8) _ d.packing);
       a = operand_named s x xs (first_of_two s (x == 6) (x == 7) (y == 6) (y == 7) both);
       b = operand_named s y ys (second_of_two s (x == 6) (x == 7) (y == 6) (y == 7) both);
     }

@@ -6,7 +6,7 @@ use Rattle.qpu_word.specs.declared.name.Place.{Place}
 use Rattle.qpu_word.specs.declared.name.Place.TheVariants.{Both, FileA, FileB}
 use Rattle.qpu_word.specs.declared.word.Fields.{Fields}
 use Rattle.qpu_word.specs.Canonical.{exchange_rule, file_matters}
-use Rattle.qpu_line.specs.Targets.{target_of, address_of, exchange_of}
+use Rattle.qpu_line.specs.Targets.{target_at_address, address_of, exchange_of}
 
 -- a target by whether its file matters
 abbrev pub place_of : Bool → Bool → ℕ → Place
@@ -17,8 +17,8 @@ address_of_place true true a = refl
 address_of_place true false a = refl
 address_of_place false in_b a = refl
 
-pub address_back : (in_b : Bool) (a : ℕ) → address_of (target_of in_b a) ≡ a
-unfolding target_of
+pub address_back : (in_b : Bool) (a : ℕ) → address_of (target_at_address in_b a) ≡ a
+unfolding target_at_address
 address_back in_b a = address_of_place (file_matters a) in_b a
 
 exchange_of_places : (m n ws : Bool) (a b : ℕ) → (not ws || m || n) ≡ true → exchange_of (place_of m ws a) (place_of n (not ws) b) ≡ (if ws then 1 else 0)
@@ -34,8 +34,8 @@ exchange_of_places false false false a b why = refl
 pub bit_back : (n : ℕ) → n < 2 → (if n == 1 then 1 else 0) ≡ n
 bit_back n below = grind (arith, nat_tests)
 
-pub exchange_back : (ws a b : ℕ) → ws < 2 → (not (ws == 1) || file_matters a || file_matters b) ≡ true → exchange_of (target_of (ws == 1) a) (target_of (not (ws == 1)) b) ≡ ws
-unfolding target_of
+pub exchange_back : (ws a b : ℕ) → ws < 2 → (not (ws == 1) || file_matters a || file_matters b) ≡ true → exchange_of (target_at_address (ws == 1) a) (target_at_address (not (ws == 1)) b) ≡ ws
+unfolding target_at_address
 exchange_back ws a b below why = exchange_of_places (file_matters a) (file_matters b) (ws == 1) a b why ∙ bit_back ws below
 
 exchange_by : (ws : ℕ) (p a q b : Bool) → ((ws == 0) || (p && a) || (q && b)) ≡ true → (not (ws == 1) || a || b) ≡ true

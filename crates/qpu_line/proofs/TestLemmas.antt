@@ -6,7 +6,7 @@ use Rattle.qpu_word.specs.Words.{between, is_write_address, is_unary}
 use Rattle.qpu_line.specs.declared.part.Part.{Part}
 use Rattle.qpu_line.specs.declared.slots.UnitFields.{UnitFields}
 use Rattle.qpu_word.specs.Canonical.{unit_rule, file_matters}
-use Rattle.qpu_line.specs.Targets.{target_of, address_of, is_row_a, in_file_a, in_file_b}
+use Rattle.qpu_line.specs.Targets.{target_at_address, address_of, is_row_a, in_file_a, in_file_b}
 use Rattle.qpu_line.specs.Units.{operand_of, part_of, part_to, part_uses, any_uses, mux_of, unpack_of, over, to_of, pack_of, pack_at}
 use Rattle.qpu_line.specs.Named.{is_source, is_unpack_at, is_pack_at, IsNamedPart}
 use Rattle.qpu_line.proofs.AgainLemmas.{exchange_by, matters_in_a, matters_in_b}
@@ -18,14 +18,14 @@ use Rattle.qpu_line.proofs.SourceLemmas.{all_sources}
 use Rattle.qpu_line.proofs.NamedLemmas.{ComesBack, IsNamedBy, add_there, mul_there, acts_is, source_somewhere}
 
 -- targets
-to_named : (in_b : Bool) (address : ℕ) → is_write_address (address_of (target_of in_b address)) ≡ true → is_write_address address ≡ true
+to_named : (in_b : Bool) (address : ℕ) → is_write_address (address_of (target_at_address in_b address)) ≡ true → is_write_address address ≡ true
 to_named in_b address named = rw (address_back in_b address) at named
 
 to_by : (nothing named : Bool) → (nothing ≡ false → named ≡ true) → (not nothing && not named) ≡ false
 to_by true named is = refl
 to_by false named is = rw (is refl) refl
 
-pub to_of_unit : (s : UnitFields) (in_b : Bool) (op cond address x y : ℕ) → (idle op cond ≡ false → IsNamedPart (part_to s (target_of in_b address) op cond x y))
+pub to_of_unit : (s : UnitFields) (in_b : Bool) (op cond address x y : ℕ) → (idle op cond ≡ false → IsNamedPart (part_to s (target_at_address in_b address) op cond x y))
     → (acts op cond && not (is_write_address address)) ≡ false
 to_of_unit s in_b op cond address x y named =
     rw (acts_is op cond) (to_by (idle op cond) (is_write_address address) (λ is. to_named in_b address (named is).to))
@@ -35,7 +35,7 @@ nowhere_by : (nowhere : Bool) (cond : ℕ) → (nowhere ≡ true → cond ≡ 1)
 nowhere_by true cond always = rw (always refl) refl
 nowhere_by false cond always = refl
 
-always_at : (in_b : Bool) (address cond : ℕ) → ((address_of (target_of in_b address) == 39) ≡ true → cond ≡ 1) → (address == 39) ≡ true → cond ≡ 1
+always_at : (in_b : Bool) (address cond : ℕ) → ((address_of (target_at_address in_b address) == 39) ≡ true → cond ≡ 1) → (address == 39) ≡ true → cond ≡ 1
 always_at in_b address cond always at = always (rw (address_back in_b address) at)
 
 rule_by : (nothing : Bool) (op cond address x y : ℕ) → (nothing ≡ true → SaysNothing op cond address x y) → (nothing ≡ false → (address == 39) ≡ true → cond ≡ 1)
@@ -44,7 +44,7 @@ rule_by true op cond address x y tidy always = rw ((tidy refl).op, (tidy refl).c
 rule_by false op cond address x y tidy always = nowhere_by (address == 39) cond (always refl)
 
 pub rule_of_unit : (s : UnitFields) (in_b : Bool) (op cond address x y : ℕ) → IsTidy op cond address x y
-    → (idle op cond ≡ false → IsNamedPart (part_to s (target_of in_b address) op cond x y)) → unit_rule (acts op cond) op cond address x y ≡ true
+    → (idle op cond ≡ false → IsNamedPart (part_to s (target_at_address in_b address) op cond x y)) → unit_rule (acts op cond) op cond address x y ≡ true
 rule_of_unit s in_b op cond address x y tidy named =
     rw (acts_is op cond) (rule_by (idle op cond) op cond address x y tidy (λ is. always_at in_b address cond (named is).always))
 
@@ -72,22 +72,22 @@ flags_of s below n =
     (flags_by s.sf (s.sf == 1) (not (idle s.op_add s.cond_add)) (not (idle s.op_mul s.cond_mul)) refl below n.sets)
 
 -- the exchange of files
-pub is_target : (in_b : Bool) (address : ℕ) → target_of in_b (address_of (target_of in_b address)) ≡ target_of in_b address
-is_target in_b address = ap (target_of in_b) (address_back in_b address)
+pub is_target : (in_b : Bool) (address : ℕ) → target_at_address in_b (address_of (target_at_address in_b address)) ≡ target_at_address in_b address
+is_target in_b address = ap (target_at_address in_b) (address_back in_b address)
 
-b_by : (nothing in_b : Bool) (p : Part) (address : ℕ) → p.to ≡ target_of in_b address → in_file_b (to_of (if nothing then None else Some p)) ≡ true → (not nothing && file_matters address) ≡ true
+b_by : (nothing in_b : Bool) (p : Part) (address : ℕ) → p.to ≡ target_at_address in_b address → in_file_b (to_of (if nothing then None else Some p)) ≡ true → (not nothing && file_matters address) ≡ true
 b_by true in_b p address to is = absurd (grind (arith, is))
 b_by false in_b p address to is =
     let P : ℕ → Type 0 = λ n. file_matters n ≡ true in
-    let at : in_file_b (target_of in_b address) ≡ true = rw to at is in
-    subst P (address_back in_b address) (matters_in_b in_b (target_of in_b address) (is_target in_b address) at)
+    let at : in_file_b (target_at_address in_b address) ≡ true = rw to at is in
+    subst P (address_back in_b address) (matters_in_b in_b (target_at_address in_b address) (is_target in_b address) at)
 
-a_by : (nothing in_b : Bool) (p : Part) (address : ℕ) → p.to ≡ target_of in_b address → in_file_a (to_of (if nothing then None else Some p)) ≡ true → (not nothing && file_matters address) ≡ true
+a_by : (nothing in_b : Bool) (p : Part) (address : ℕ) → p.to ≡ target_at_address in_b address → in_file_a (to_of (if nothing then None else Some p)) ≡ true → (not nothing && file_matters address) ≡ true
 a_by true in_b p address to is = absurd (grind (arith, is))
 a_by false in_b p address to is =
     let P : ℕ → Type 0 = λ n. file_matters n ≡ true in
-    let at : in_file_a (target_of in_b address) ≡ true = rw to at is in
-    subst P (address_back in_b address) (matters_in_a in_b (target_of in_b address) (is_target in_b address) at)
+    let at : in_file_a (target_at_address in_b address) ≡ true = rw to at is in
+    subst P (address_back in_b address) (matters_in_a in_b (target_at_address in_b address) (is_target in_b address) at)
 
 exchange_both : (s : UnitFields)
     → (((if in_file_b (to_of (add_part s)) || in_file_a (to_of (mul_part s)) then 1 else 0) == 0) || (not (idle s.op_add s.cond_add) && file_matters s.waddr_add) || (not (idle s.op_mul s.cond_mul) && file_matters s.waddr_mul)) ≡ true
@@ -131,8 +131,8 @@ mode_by : (row : Bool) (pack : ℕ) → row ≡ true
 mode_by true pack is named = named
 mode_by false pack is named = absurd (grind (arith, is))
 
-mode_at : (in_b : Bool) (address pack : ℕ) → is_pack_at (target_of in_b address) (pack_at (target_of in_b address) pack) ≡ true → not in_b ≡ true → nat_lt address 32 ≡ true → is_mode pack ≡ true
-mode_at in_b address pack named file row = mode_by (is_row_a (target_of in_b address)) pack (row_a_of in_b address ∙ rw (file, row) refl) named
+mode_at : (in_b : Bool) (address pack : ℕ) → is_pack_at (target_at_address in_b address) (pack_at (target_at_address in_b address) pack) ≡ true → not in_b ≡ true → nat_lt address 32 ≡ true → is_mode pack ≡ true
+mode_at in_b address pack named file row = mode_by (is_row_a (target_at_address in_b address)) pack (row_a_of in_b address ∙ rw (file, row) refl) named
 
 mode_packs : (pack : ℕ) → is_mode pack ≡ true → ((pack == 8) || (not (pack == 0) && false)) ≡ false
 mode_packs pack is = grind (arith, nat_tests, is)

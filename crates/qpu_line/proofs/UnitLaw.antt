@@ -5,7 +5,7 @@ use Rattle.std.proofs.lemmas.Bool.Decides.{nat_tests}
 use Rattle.qpu_line.specs.declared.slots.UnitFields.{UnitFields}
 use Rattle.qpu_line.specs.declared.part.Part.{Part}
 use Rattle.qpu_word.specs.Canonical.{file_matters}
-use Rattle.qpu_line.specs.Targets.{target_of, address_of, exchange_of, is_row_a}
+use Rattle.qpu_line.specs.Targets.{target_at_address, address_of, exchange_of, is_row_a}
 use Rattle.qpu_line.specs.Units.{part_of, part_to, part_uses, any_uses, signal_of, other_read, units_of, row_a, unpack_of, row_b, small_signal, over, to_of, pack_of, signal_code, rotation_or, other_or, fields_of_units}
 use Rattle.qpu_line.proofs.TargetLemmas.{address_back, exchange_back, bit_back}
 use Rattle.qpu_line.proofs.UnitLemmas.{IsTidy, idle, op_back, cond_back, to_back, first_back, second_back, over_row_a, over_unpack, over_row_b, signal_used, two_uses}
@@ -113,8 +113,8 @@ pack_by : (nothing : Bool) (p : Part) (rest : ℕ) → pack_of (if nothing then 
 pack_by true p rest = refl
 pack_by false p rest = refl
 
-pub row_a_of : (in_b : Bool) (address : ℕ) → is_row_a (target_of in_b address) ≡ (not in_b && nat_lt address 32)
-unfolding target_of
+pub row_a_of : (in_b : Bool) (address : ℕ) → is_row_a (target_at_address in_b address) ≡ (not in_b && nat_lt address 32)
+unfolding target_at_address
 row_a_of true address = grind (arith, nat_tests)
 row_a_of false address = grind (arith, nat_tests)
 
@@ -127,7 +127,7 @@ pub pack_part : (s : UnitFields) (in_b : Bool) (op cond address x y rest : ℕ)
     → pack_of (part_of s in_b op cond address x y) rest ≡ (if not (idle op cond) && (not in_b && nat_lt address 32) then s.pack else rest)
 unfolding part_of
 pack_part s in_b op cond address x y rest =
-    pack_by (idle op cond) (part_to s (target_of in_b address) op cond x y) rest
+    pack_by (idle op cond) (part_to s (target_at_address in_b address) op cond x y) rest
     ∙ rw (row_a_of in_b address) (same_pack (not (idle op cond)) (not in_b && nat_lt address 32) s.pack rest)
 
 choose_pack : (ws a ra b rb : Bool) (pack : ℕ) → (ws ≡ true → (b && rb) ≡ false → pack ≡ 0) → (ws ≡ false → (a && ra) ≡ false → pack ≡ 0)
@@ -151,10 +151,10 @@ pack_back s o =
     ∙ choose_pack (s.ws == 1) (not (idle s.op_add s.cond_add)) (nat_lt s.waddr_add 32) (not (idle s.op_mul s.cond_mul)) (nat_lt s.waddr_mul 32) s.pack o.pack_ws o.pack)
 
 -- the addresses and the exchange
-add_to : (s : UnitFields) → IsOwn s → to_of (add_part s) ≡ target_of (s.ws == 1) s.waddr_add
+add_to : (s : UnitFields) → IsOwn s → to_of (add_part s) ≡ target_at_address (s.ws == 1) s.waddr_add
 add_to s o = to_back s (s.ws == 1) s.op_add s.cond_add s.waddr_add s.add_a s.add_b o.add
 
-mul_to : (s : UnitFields) → IsOwn s → to_of (mul_part s) ≡ target_of (not (s.ws == 1)) s.waddr_mul
+mul_to : (s : UnitFields) → IsOwn s → to_of (mul_part s) ≡ target_at_address (not (s.ws == 1)) s.waddr_mul
 mul_to s o = to_back s (not (s.ws == 1)) s.op_mul s.cond_mul s.waddr_mul s.mul_a s.mul_b o.mul
 
 ws_back : (s : UnitFields) → IsOwn s → exchange_of (to_of (add_part s)) (to_of (mul_part s)) ≡ s.ws

@@ -5,7 +5,7 @@ use Rattle.std.proofs.lemmas.Bool.Decides.{nat_tests}
 use Rattle.qpu_line.specs.declared.part.Part.{Part}
 use Rattle.qpu_line.specs.declared.operand.Operand.{Operand}
 use Rattle.qpu_line.specs.declared.slots.UnitFields.{UnitFields}
-use Rattle.qpu_line.specs.Targets.{target_of}
+use Rattle.qpu_line.specs.Targets.{target_at_address}
 use Rattle.qpu_line.specs.Units.{operand_of, part_to, part_of, part_uses, mux_of, row_a, unpack_of, row_b, small_signal, over, op_of, cond_of, to_of, first_of, second_of}
 
 -- what is read of a part that is there or isn't
@@ -37,13 +37,13 @@ unfolding part_of
 cond_back s in_b op cond address x y tidy = read_back cond_of (idle op cond) _ cond (λ i. sym (tidy i).cond) (λ i. refl)
 
 -- 39 is no place of one file
-nowhere_target : (in_b : Bool) (address : ℕ) → address ≡ 39 → to_of None ≡ target_of in_b address
-unfolding target_of
+nowhere_target : (in_b : Bool) (address : ℕ) → address ≡ 39 → to_of None ≡ target_at_address in_b address
+unfolding target_at_address
 nowhere_target in_b address is = rw is refl
 
-pub to_back : (s : UnitFields) (in_b : Bool) (op cond address x y : ℕ) → IsTidy op cond address x y → to_of (part_of s in_b op cond address x y) ≡ target_of in_b address
+pub to_back : (s : UnitFields) (in_b : Bool) (op cond address x y : ℕ) → IsTidy op cond address x y → to_of (part_of s in_b op cond address x y) ≡ target_at_address in_b address
 unfolding part_of
-to_back s in_b op cond address x y tidy = read_back to_of (idle op cond) _ (target_of in_b address) (λ i. nowhere_target in_b address (tidy i).address) (λ i. refl)
+to_back s in_b op cond address x y tidy = read_back to_of (idle op cond) _ (target_at_address in_b address) (λ i. nowhere_target in_b address (tidy i).address) (λ i. refl)
 
 pub mux_back : (s : UnitFields) (m : ℕ) → m < 8 → mux_of (operand_of s m) ≡ m
 mux_back s m below = grind (arith, nat_tests)
@@ -87,21 +87,21 @@ pub over_row_a : (s : UnitFields) (in_b : Bool) (op cond address x y rest : ℕ)
     → over row_a (part_of s in_b op cond address x y) rest ≡ (if part_uses op cond x y 6 then s.raddr_a else rest)
 unfolding part_of
 over_row_a s in_b op cond address x y rest =
-    over_by row_a (idle op cond) (part_to s (target_of in_b address) op cond x y) ((x == 6) || (y == 6)) s.raddr_a rest
+    over_by row_a (idle op cond) (part_to s (target_at_address in_b address) op cond x y) ((x == 6) || (y == 6)) s.raddr_a rest
     (row_a_at s x (row_a (operand_of s y) rest) ∙ (rw (row_a_at s y rest) refl ∙ either (x == 6) (y == 6) s.raddr_a rest))
 
 pub over_unpack : (s : UnitFields) (in_b : Bool) (op cond address x y rest : ℕ)
     → over unpack_of (part_of s in_b op cond address x y) rest ≡ (if part_uses op cond x y 6 then s.unpack else rest)
 unfolding part_of
 over_unpack s in_b op cond address x y rest =
-    over_by unpack_of (idle op cond) (part_to s (target_of in_b address) op cond x y) ((x == 6) || (y == 6)) s.unpack rest
+    over_by unpack_of (idle op cond) (part_to s (target_at_address in_b address) op cond x y) ((x == 6) || (y == 6)) s.unpack rest
     (unpack_at s x (unpack_of (operand_of s y) rest) ∙ (rw (unpack_at s y rest) refl ∙ either (x == 6) (y == 6) s.unpack rest))
 
 pub over_row_b : (s : UnitFields) (in_b : Bool) (op cond address x y rest : ℕ) → x < 8 → y < 8
     → over row_b (part_of s in_b op cond address x y) rest ≡ (if part_uses op cond x y 7 then s.raddr_b else rest)
 unfolding part_of
 over_row_b s in_b op cond address x y rest xs ys =
-    over_by row_b (idle op cond) (part_to s (target_of in_b address) op cond x y) ((x == 7) || (y == 7)) s.raddr_b rest
+    over_by row_b (idle op cond) (part_to s (target_at_address in_b address) op cond x y) ((x == 7) || (y == 7)) s.raddr_b rest
     (row_b_at s x (row_b (operand_of s y) rest) xs ∙ (rw (row_b_at s y rest ys) refl ∙ either (x == 7) (y == 7) s.raddr_b rest))
 
 small_either : (a b small : Bool) (v rest : ℕ) → (if a && small then v else if b && small then v else rest) ≡ (if a || b then (if small then v else rest) else rest)
@@ -116,7 +116,7 @@ pub signal_used : (s : UnitFields) (small : Bool) → (s.sig == 13) ≡ small �
     → over small_signal (part_of s in_b op cond address x y) rest ≡ (if part_uses op cond x y 7 then (if small then 13 else rest) else rest)
 unfolding part_of
 signal_used s small is in_b op cond address x y rest xs ys =
-    read_back (λ p. over small_signal p rest) (idle op cond) (part_to s (target_of in_b address) op cond x y) _
+    read_back (λ p. over small_signal p rest) (idle op cond) (part_to s (target_at_address in_b address) op cond x y) _
     (λ i. rw i refl)
     (λ i. rw i (signal_at s x (small_signal (operand_of s y) rest) xs ∙ (rw (signal_at s y rest ys, is) refl ∙ small_either (x == 7) (y == 7) small 13 rest)))
 

@@ -8,7 +8,7 @@ use Rattle.qpu_word.specs.Form.{form_of}
 use Rattle.qpu_line.specs.declared.instruction.Instruction.{Instruction}
 use Rattle.qpu_word.specs.Canonical.{IsCanonical, operand_rule}
 use Rattle.qpu_line.specs.Canonical.{canonical_instruction}
-use Rattle.qpu_line.specs.Slots.{unit_fields, unit_word}
+use Rattle.qpu_line.specs.Slots.{unit_fields, units_word}
 use Rattle.qpu_line.specs.Units.{units_of, fields_of_units}
 use Rattle.qpu_line.specs.Instructions.{instruction_of, word_of}
 use Rattle.qpu_line.proofs.FormLemmas.{plain, immediate_signal, immediate_pack, is_a_load, semaphore_form, branch_signal}
@@ -55,9 +55,9 @@ back_without_units w true below c alu small branch =
 back_without_units w false below c alu small branch = immediate_back w _ _ _ below c alu small branch refl refl refl
 
 -- words in which both units compute
-back_of_units : (w : ℕ) → w < 2 ^ 64 → IsCanonical w → is_unit_word (fields_of w) ≡ true → unit_word (fields_of_units (units_of (unit_fields (fields_of w)))) ≡ w
+back_of_units : (w : ℕ) → w < 2 ^ 64 → IsCanonical w → is_unit_word (fields_of w) ≡ true → units_word (fields_of_units (units_of (unit_fields (fields_of w)))) ≡ w
 back_of_units w below c unit =
-    ap unit_word (fields_back (unit_fields (fields_of w)) (own w c unit)) ∙ unit_word_back w below (no_pm (fields_of w) c.operands)
+    ap units_word (fields_back (unit_fields (fields_of w)) (own w c unit)) ∙ unit_word_back w below (no_pm (fields_of w) c.operands)
 
 back_by_form : (w : ℕ) (alu small : Bool) → w < 2 ^ 64 → IsCanonical w → is_alu (fields_of w) ≡ alu → is_small (fields_of w) ≡ small
     → word_of (instruction_of (form_of (fields_of w)) (fields_of w)) ≡ w

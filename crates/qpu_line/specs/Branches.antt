@@ -3,7 +3,7 @@ use Rattle.std.specs.Prelude.{ℕ, ◌+◌, ◌*◌, ◌%◌, ◌^◌, ◌==◌,
 use Rattle.qpu_word.specs.declared.word.Fields.{Fields}
 use Rattle.qpu_word.specs.declared.code.TheConstants.{SIGNAL_BRANCH}
 use Rattle.qpu_line.specs.declared.branch.Branch.{Branch}
-use Rattle.qpu_line.specs.Targets.{target_of, address_of, exchange_of}
+use Rattle.qpu_line.specs.Targets.{target_at_address, address_of, exchange_of}
 
 -- the row of file A that a branch adds, where it adds one
 abbrev pub register_of : Bool → ℕ → Option ℕ
@@ -15,8 +15,8 @@ branch_of f = record {
   cond = f.cond_br;
   relative = (f.rel == 1);
   register = register_of (f.reg == 1) f.raddr_br;
-  add = target_of (f.ws == 1) f.waddr_add;
-  mul = target_of (not (f.ws == 1)) f.waddr_mul;
+  add = target_at_address (f.ws == 1) f.waddr_add;
+  mul = target_at_address (not (f.ws == 1)) f.waddr_mul;
   immediate = f.immediate;
 }
 
@@ -26,8 +26,8 @@ register_row None = 0
 register_row (Some row) = row
 
 -- the upper half of a branch's word; of each number as many low bits count as its field has
-abbrev pub branch_high : Branch → ℕ
-branch_high b =
+abbrev pub branch_instruction_high : Branch → ℕ
+branch_instruction_high b =
     SIGNAL_BRANCH * 2 ^ 28
     + b.cond % 16 * 2 ^ 20
     + (if b.relative then 1 else 0) * 2 ^ 19
@@ -38,5 +38,5 @@ branch_high b =
     + address_of b.mul % 64
 
 -- the canonical word of a branch
-abbrev pub branch_word : Branch → ℕ
-branch_word b = branch_high b * 2 ^ 32 + b.immediate
+abbrev pub branch_instruction_word : Branch → ℕ
+branch_instruction_word b = branch_instruction_high b * 2 ^ 32 + b.immediate

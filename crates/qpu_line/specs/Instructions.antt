@@ -8,8 +8,8 @@ use Rattle.qpu_line.specs.declared.instruction.Instruction.{Instruction}
 use Rattle.qpu_line.specs.declared.instruction.Instruction.TheVariants.{Both, Load, Semaphore, Branch}
 use Rattle.qpu_line.specs.Semaphores.{semaphore_of, semaphore_word}
 use Rattle.qpu_line.specs.Loads.{load_of, load_word}
-use Rattle.qpu_line.specs.Branches.{branch_of, branch_word}
-use Rattle.qpu_line.specs.Slots.{unit_fields, unit_word}
+use Rattle.qpu_line.specs.Branches.{branch_of, branch_instruction_word}
+use Rattle.qpu_line.specs.Slots.{unit_fields, units_word}
 use Rattle.qpu_line.specs.Units.{units_of, fields_of_units}
 
 -- the instruction of a word's fields, by the word's form
@@ -24,7 +24,7 @@ instruction_of BranchForm f = Branch (branch_of f)
 
 -- the canonical word of an instruction
 unfoldable pub word_of : Instruction → ℕ
-word_of (Both u) = unit_word (fields_of_units u)
+word_of (Both u) = units_word (fields_of_units u)
 word_of (Load l) = load_word l
 word_of (Semaphore s) = semaphore_word s
-word_of (Branch b) = branch_word b
+word_of (Branch b) = branch_instruction_word b

@@ -8,7 +8,7 @@ use Rattle.qpu_line.specs.declared.load.Load.{Load}
 use Rattle.qpu_line.specs.declared.load.LoadKind.{LoadKind}
 use Rattle.qpu_line.specs.declared.load.LoadKind.TheVariants.{Whole, Signed, Unsigned}
 use Rattle.qpu_line.specs.declared.load.Write.{Write}
-use Rattle.qpu_line.specs.Targets.{target_of, address_of, exchange_of}
+use Rattle.qpu_line.specs.Targets.{target_at_address, address_of, exchange_of}
 
 -- the kinds of loads and their codes
 abbrev pub kind_of : ℕ → LoadKind
@@ -22,7 +22,7 @@ kind_code Unsigned = KIND_LOAD_UNSIGNED
 -- a unit writes where its condition isn't never and its address isn't 39
 abbrev pub write_of : ℕ → Bool → ℕ → Option Write
 write_of cond in_b address =
-    if (cond == 0) || (address == NOWHERE) then None else Some (record { cond = cond; to = target_of in_b address })
+    if (cond == 0) || (address == NOWHERE) then None else Some (record { cond = cond; to = target_at_address in_b address })
 
 -- the load immediate of a word's fields
 abbrev pub load_of : Fields → Load

@@ -7,9 +7,7 @@ use Rattle.qpu_line.specs.declared.name.Register.{Register}
 use Rattle.qpu_line.specs.declared.name.Register.TheVariants.{RowA, RowB}
 use Rattle.qpu_line.specs.declared.name.TheConstants.{WORDS}
 use Rattle.qpu_line.specs.Spellings.{spelling}
-
-abbrev pub between : ℕ → ℕ → ℕ → Bool
-between low high n = nat_le low n && nat_le n high
+use Rattle.qpu_word.specs.Words.{between}
 
 -- digits of 0 to 31, with no leading zero
 abbrev pub row_number : List ℕ → Option ℕ

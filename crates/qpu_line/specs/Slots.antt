@@ -40,8 +40,8 @@ unit_high f =
     + f.waddr_mul % 64
 
 -- the lower half
-abbrev pub unit_low : UnitFields → ℕ
-unit_low f =
+abbrev pub units_low : UnitFields → ℕ
+units_low f =
     f.op_mul % 8 * 2 ^ 29
     + f.op_add % 32 * 2 ^ 24
     + f.raddr_a % 64 * 2 ^ 18
@@ -52,5 +52,5 @@ unit_low f =
     + f.mul_b % 8
 
 -- the word of the fields
-unfoldable pub unit_word : UnitFields → ℕ
-unit_word f = unit_high f * 2 ^ 32 + unit_low f
+unfoldable pub units_word : UnitFields → ℕ
+units_word f = unit_high f * 2 ^ 32 + units_low f

@@ -8,8 +8,8 @@ use Rattle.qpu_word.specs.declared.code.TheConstants.{ROWS}
 use Rattle.qpu_word.specs.Canonical.{file_matters}
 
 -- the target of a write address of file A or B
-unfoldable pub target_of : Bool → ℕ → Place
-target_of in_b a = if file_matters a then (if in_b then FileB a else FileA a) else Both a
+unfoldable pub target_at_address : Bool → ℕ → Place
+target_at_address in_b a = if file_matters a then (if in_b then FileB a else FileA a) else Both a
 
 -- the write address of a target
 abbrev pub address_of : Place → ℕ

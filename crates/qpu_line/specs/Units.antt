@@ -11,7 +11,7 @@ use Rattle.qpu_line.specs.declared.units.Signal.{Signal}
 use Rattle.qpu_line.specs.declared.units.Signal.TheVariants.{Nothing, End, Load0, Load1, Rotate}
 use Rattle.qpu_line.specs.declared.units.Units.{Units}
 use Rattle.qpu_line.specs.declared.slots.UnitFields.{UnitFields}
-use Rattle.qpu_line.specs.Targets.{target_of, address_of, is_row_a, exchange_of}
+use Rattle.qpu_line.specs.Targets.{target_at_address, address_of, is_row_a, exchange_of}
 
 -- from fields to an instruction
 
@@ -34,7 +34,7 @@ part_to f to op cond x y = record { op = op; cond = cond; to = to; pack = pack_a
 -- the part of a unit; none where its operation is nop or its condition never
 unfoldable pub part_of : UnitFields → Bool → ℕ → ℕ → ℕ → ℕ → ℕ → Option Part
 part_of f in_b op cond address x y =
-    if (op == 0) || (cond == 0) then None else Some (part_to f (target_of in_b address) op cond x y)
+    if (op == 0) || (cond == 0) then None else Some (part_to f (target_at_address in_b address) op cond x y)
 
 -- a unit that computes uses a mux
 abbrev pub part_uses : ℕ → ℕ → ℕ → ℕ → ℕ → Bool

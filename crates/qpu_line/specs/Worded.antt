@@ -8,7 +8,7 @@ use Rattle.qpu_line.specs.declared.semaphore.Semaphore.{Semaphore}
 use Rattle.qpu_line.specs.declared.load.Load.{Load}
 use Rattle.qpu_line.specs.declared.load.Write.{Write}
 use Rattle.qpu_line.specs.declared.branch.Branch.{Branch}
-use Rattle.qpu_line.specs.Targets.{target_of, address_of, exchange_of}
+use Rattle.qpu_line.specs.Targets.{target_at_address, address_of, exchange_of}
 use Rattle.qpu_line.specs.Loads.{write_target}
 
 -- the semaphores are numbered from 0 to 15
@@ -17,7 +17,7 @@ IsSemaphore s = s.number < 16
 
 -- a target of the file that its unit writes, where that matters
 abbrev pub IsTarget : Bool → Place → Type 0
-IsTarget in_b to = target_of in_b (address_of to) ≡ to
+IsTarget in_b to = target_at_address in_b (address_of to) ≡ to
 
 -- what a unit writes of a load: its condition isn't never, its address has a name, and isn't 39
 pub record IsWrite (w : Write) : Type 0 where

@@ -1,6 +1,6 @@
 //! Branches (Guide, "QPU Instruction Encoding").
 ghost use Rattle.std.specs.Prelude.{◌≡◌, ◌==◌};
-ghost use Rattle.qpu_line.specs.Branches.{register_of, branch_of, register_row, branch_high, branch_word};
+ghost use Rattle.qpu_line.specs.Branches.{register_of, branch_of, register_row, branch_instruction_high, branch_instruction_word};
 
 use crate::slots::{
     ADD_ADDRESS, ADDRESSES, BRANCH_CONDITIONS, BRANCH_ROWS, EXCHANGE, MUL_ADDRESS, PACK, REGISTER,
@@ -61,7 +61,7 @@ impl Branch {
 
     /// The upper half of its word.
     fn high(&self) -> u32
-        ensures { result ≡ branch_high self.now }
+        ensures { result ≡ branch_instruction_high self.now }
     {
         SIGNAL_BRANCH * SIGNAL
             + self.cond % BRANCH_CONDITIONS * PACK
@@ -75,7 +75,7 @@ impl Branch {
 
     /// Its word, as a number.
     pub(crate) fn word(&self) -> u64
-        ensures { result ≡ branch_word self.now }
+        ensures { result ≡ branch_instruction_word self.now }
     {
         join(self.high(), self.immediate)
     }

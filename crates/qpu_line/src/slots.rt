@@ -1,6 +1,6 @@
 //! Where fields stand in the halves of a word (Guide, "QPU Instruction Encoding").
 ghost use Rattle.std.specs.Prelude.{◌≡◌, ◌+◌, ◌*◌, ◌^◌};
-ghost use Rattle.qpu_line.specs.Slots.{unit_fields, unit_high, unit_low, unit_word};
+ghost use Rattle.qpu_line.specs.Slots.{unit_fields, unit_high, units_low, units_word};
 
 use qpu_word::Fields;
 pub(crate) use qpu_word::slot::{
@@ -82,7 +82,7 @@ impl UnitFields {
 
     /// The lower half of their word.
     fn low(&self) -> u32
-        ensures { result ≡ unit_low self.now }
+        ensures { result ≡ units_low self.now }
     {
         self.op_mul % MUL_CODES * MUL_OPERATION
             + self.op_add % ADD_CODES * ADD_OPERATION
@@ -95,9 +95,9 @@ impl UnitFields {
     }
 
     /// Their word, as a number.
-    #[tactic(auto, unfolding(crate::specs::Slots::unit_word))]
+    #[tactic(auto, unfolding(crate::specs::Slots::units_word))]
     pub(crate) fn word(&self) -> u64
-        ensures { result ≡ unit_word self.now }
+        ensures { result ≡ units_word self.now }
     {
         join(self.high(), self.low())
     }

@@ -1,15 +1,15 @@
 //! Targets of writes: an address, with its file where that matters.
 ghost use Rattle.std.specs.Prelude.{◌≡◌, ◌==◌};
 ghost use Rattle.qpu_word.specs.Canonical.{file_matters};
-ghost use Rattle.qpu_line.specs.Targets.{target_of, address_of, in_file_a, in_file_b, is_row_a, exchange_of};
+ghost use Rattle.qpu_line.specs.Targets.{target_at_address, address_of, in_file_a, in_file_b, is_row_a, exchange_of};
 
 use qpu_word::code::ROWS;
 use qpu_word::{Place, file_matters};
 
 /// The target of a write address of file A or B.
-#[tactic(auto, unfolding(crate::specs::Targets::target_of))]
+#[tactic(auto, unfolding(crate::specs::Targets::target_at_address))]
 pub(crate) fn target_of(in_b: bool, address: u32) -> Place
-    ensures { result ≡ target_of in_b address }
+    ensures { result ≡ target_at_address in_b address }
 {
     if file_matters(address) {
         if in_b {

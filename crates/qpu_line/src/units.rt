@@ -1,6 +1,6 @@
 //! Instructions of both units: ALU and small immediate words (Guide, "QPU Instruction Encoding").
 ghost use Rattle.std.specs.Prelude.{◌≡◌, ◌==◌};
-ghost use Rattle.qpu_line.specs.Slots.{unit_word};
+ghost use Rattle.qpu_line.specs.Slots.{units_word};
 ghost use Rattle.qpu_line.specs.Units.{over_units, row_a, row_b, unpack_of, small_signal, operand_of, pack_at, part_of, part_uses, any_uses, signal_of, other_read, units_of, signal_code, rotation_or, other_or, fields_of_units};
 
 use crate::operand::Operand;
@@ -239,7 +239,7 @@ impl Units {
 
     /// Its word, as a number.
     pub(crate) fn word(&self) -> u64
-        ensures { result ≡ unit_word (fields_of_units self.now) }
+        ensures { result ≡ units_word (fields_of_units self.now) }
     {
         self.fields().word()
     }

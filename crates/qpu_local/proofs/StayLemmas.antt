@@ -8,7 +8,7 @@ use Rattle.qpu_word.specs.declared.traffic.Ins.{Ins}
 use Rattle.qpu_word.specs.declared.setup.Book.{Book}
 use Rattle.qpu_word.specs.declared.state.Flags.{Flags}
 use Rattle.qpu_word.specs.declared.code.TheConstants.{NOWHERE, WRITE_UNIFORMS_ADDRESS, WRITE_VPM_SETUP}
-use Rattle.qpu_word.specs.Words.{is_exchanged, is_unit_word, add_writes, mul_writes, writes_a, writes_b}
+use Rattle.qpu_word.specs.Words.{swaps_writes, is_unit_word, add_writes, mul_writes, writes_a, writes_b}
 use Rattle.qpu_word.specs.Processor.{ProcessorState}
 use Rattle.qpu_local.specs.Quiet.{StaysIn, IsQuiet}
 use Rattle.qpu_word.specs.Instruction.{sent_to, sent_to_a, sent_to_b, outs_from, outs_of, after_setups, after_uniform_to, then_after, put_add, put_mul, put_loaded, registers_after, unit_flags, load_flags, flags_after, place_after, rest_after, halt_after, raised_by, moved_on, done}
@@ -37,12 +37,12 @@ unsent_to_b f add mul address none = rw none refl
 nothing_to_a : (f : Fields) (add mul : List ℕ) (address : ℕ) → NOWHERE < address → StaysIn f → sent_to_a f add mul address ≡ None
 nothing_to_a f add mul address past stays =
     unsent_to_a f add mul address
-    (neither (is_exchanged f) _ _ (none_past (mul_writes f) f.waddr_mul address stays.mul past) (none_past (add_writes f) f.waddr_add address stays.add past))
+    (neither (swaps_writes f) _ _ (none_past (mul_writes f) f.waddr_mul address stays.mul past) (none_past (add_writes f) f.waddr_add address stays.add past))
 
 nothing_to_b : (f : Fields) (add mul : List ℕ) (address : ℕ) → NOWHERE < address → StaysIn f → sent_to_b f add mul address ≡ None
 nothing_to_b f add mul address past stays =
     unsent_to_b f add mul address
-    (neither (is_exchanged f) _ _ (none_past (add_writes f) f.waddr_add address stays.add past) (none_past (mul_writes f) f.waddr_mul address stays.mul past))
+    (neither (swaps_writes f) _ _ (none_past (add_writes f) f.waddr_add address stays.add past) (none_past (mul_writes f) f.waddr_mul address stays.mul past))
 
 nothing_to : (f : Fields) (add mul : List ℕ) (address : ℕ) → NOWHERE < address → StaysIn f → sent_to f add mul address ≡ None
 nothing_to f add mul address past stays =

@@ -7,8 +7,8 @@ use Rattle.qpu_word.specs.Books.{IsSoundBook}
 use Rattle.qpu_local.specs.declared.processor.Processor.TheInside.{Inside}
 
 -- the state of a processor's fields
-abbrev pub state_of : Inside → ProcessorState
-state_of inside = record {
+abbrev pub processor_state : Inside → ProcessorState
+processor_state inside = record {
   q = inside.q;
   file_a = inside.file_a;
   file_b = inside.file_b;
@@ -46,7 +46,7 @@ coming_place (To n t) = t
 
 -- each interrupt was raised by an instruction of its own; a place is a branch's target, below
 -- 2^29 words, or a few words behind one; the setups are valid ones
-pub record IsSound (inside : Inside) : Type 0 where
+pub record IsSoundProcessor (inside : Inside) : Type 0 where
   pub counted : inside.interrupts ≤ inside.executed
   pub place : inside.place ≤ 2 ^ 29 + inside.executed
   pub coming : coming_place inside.rest < 2 ^ 29

@@ -35,7 +35,7 @@ fn writes_inside(f: &Fields) -> bool
 fn is_alone(f: &Fields) -> bool
     ensures { IsTrue result → IsTrue (is_local f.now) }
 {
-    writes_inside(f) && !f.takes_words() && !f.is_semaphore() && reads_inside(f)
+    writes_inside(f) && !f.has_tmu_load() && !f.is_semaphore() && reads_inside(f)
 }
 
 /// Whether a word, whose fields these are, is local. Nearly every local word is told by a few tests

@@ -11,12 +11,12 @@ ghost use Rattle.qpu_local.specs.Views.{coming_place};
 use crate::flagging::branches;
 use crate::processor::Processor;
 use crate::sending::link;
-use qpu_word::code::{BRANCH_SLOTS, END_SLOTS, WORD_BYTES};
+use qpu_word::code::{BRANCH_SLOTS, END_SLOTS, INSTRUCTION_BYTES};
 use qpu_word::{Fields, Halt, Program, Rest};
 
 /// Where control stands after a word.
 #[derive(Clone, Copy, Debug)]
-pub struct Next {
+pub struct NextControl {
     /// The place of the next word.
     pub place: u32,
     /// What is in progress there.
@@ -110,18 +110,18 @@ impl Processor {
             return false;
         }
         let target = self.target(f);
-        !(target % WORD_BYTES == 0 && program.is_link(target / WORD_BYTES))
+        !(target % INSTRUCTION_BYTES == 0 && program.is_link(target / INSTRUCTION_BYTES))
     }
 
     /// What is in progress after a branch.
     fn rest_after_branch(&self, f: &Fields) -> Rest
         requires fit { IsFit f.now }
         requires place { self.now.place < 4096 }
-        ensures rest { result ≡ (if is_taken f.now self.now then To BRANCH_SLOTS (target_of f.now self.now / WORD_BYTES) else Straight) }
+        ensures rest { result ≡ (if is_taken f.now self.now then To BRANCH_SLOTS (target_of f.now self.now / INSTRUCTION_BYTES) else Straight) }
         ensures coming { coming_place result < 2 ^ 29 }
     {
         if self.is_taken(f) {
-            Rest::To(BRANCH_SLOTS, self.target(f) / WORD_BYTES)
+            Rest::To(BRANCH_SLOTS, self.target(f) / INSTRUCTION_BYTES)
         } else {
             Rest::Straight
         }
@@ -171,7 +171,7 @@ impl Processor {
     }
 
     /// Where control stands after a word.
-    pub(crate) fn next(&self, f: &Fields) -> Next
+    pub(crate) fn next(&self, f: &Fields) -> NextControl
         requires fit { IsFit f.now }
         requires executed { self.now.executed < 1000000 }
         requires place { IsTrue (is_branch f.now) → self.now.place < 4096 }
@@ -181,7 +181,7 @@ impl Processor {
         ensures within { result.place ≤ 2 ^ 29 + self.now.executed + 1 }
         ensures coming { coming_place result.rest < 2 ^ 29 }
     {
-        Next {
+        NextControl {
             place: self.place_after(f),
             rest: self.rest_after(f),
             halt: self.halt_after(f),

@@ -4,6 +4,7 @@ ghost use Rattle.qpu_word.specs.Lanes.{lane, mask, in_mask};
 ghost use Rattle.qpu_word.specs.Flags.{z_of, n_of, c_of, lane_test, mask_test, branch_test};
 ghost use Rattle.qpu_word.specs.Instruction.{zn_of, flags_of, unit_flags, load_flags};
 
+use qpu_word::code::BRANCH_ALWAYS;
 use qpu_word::{Fields, Flags, Lanes, with_lane};
 
 /// A mask of all lanes.
@@ -16,8 +17,6 @@ const BY_N: u32 = 4;
 const BY_C: u32 = 8;
 
 const RESERVED: u32 = 12;
-
-const BRANCH_ALWAYS: u32 = 15;
 
 /// The bit of the sign.
 const SIGN: u32 = 0x8000_0000;

@@ -1,12 +1,9 @@
 //! What an instruction sends out.
 ghost use Rattle.std.specs.Prelude.{◌≡◌, ℕ};
-ghost use Rattle.qpu_word.specs.Instruction.{is_look_address, sent_to, sent_to_a, sent_to_b, first_lane, as_lanes, look_address, outs_from};
+ghost use Rattle.qpu_word.specs.Instruction.{sent_to, sent_to_a, sent_to_b, first_lane, as_lanes, outs_from};
 
 use crate::sending::Sent;
-use qpu_word::code::{
-    NOWHERE, WRITE_DMA_ADDRESS, WRITE_TMU0_S, WRITE_TMU1_S, WRITE_UNIFORMS_ADDRESS, WRITE_VPM,
-    WRITE_VPM_SETUP,
-};
+use qpu_word::code::{WRITE_DMA_ADDRESS, WRITE_UNIFORMS_ADDRESS, WRITE_VPM, WRITE_VPM_SETUP};
 use qpu_word::{Fields, Lanes, Outs};
 
 /// The value sent to an address of either file.
@@ -44,7 +41,7 @@ fn first_to_a(f: &Fields, sent: &Sent, address: u32) -> Option<u32>
 {
     if !f.writes_a(address) {
         None
-    } else if f.is_exchanged() {
+    } else if f.swaps_writes() {
         Some(sent.mul.v[0])
     } else {
         Some(sent.add.v[0])
@@ -58,31 +55,10 @@ fn first_to_b(f: &Fields, sent: &Sent, address: u32) -> Option<u32>
 {
     if !f.writes_b(address) {
         None
-    } else if f.is_exchanged() {
+    } else if f.swaps_writes() {
         Some(sent.add.v[0])
     } else {
         Some(sent.mul.v[0])
-    }
-}
-
-/// Whether an address issues a look-up.
-fn is_look(address: u32) -> bool
-    ensures { result ≡ is_look_address address }
-{
-    address == WRITE_TMU0_S || address == WRITE_TMU1_S
-}
-
-/// The address that issues a look-up, `NOWHERE` for none.
-#[tactic(auto, unfolding(qpu_word::specs::Instruction::look_address))]
-fn look_to(f: &Fields) -> u32
-    ensures { result ≡ look_address f.now }
-{
-    if f.mul_writes() && is_look(f.waddr_mul) {
-        f.waddr_mul
-    } else if f.add_writes() && is_look(f.waddr_add) {
-        f.waddr_add
-    } else {
-        NOWHERE
     }
 }
 
@@ -98,7 +74,7 @@ pub fn outs(f: &Fields, sent: &Sent) -> Outs
         uniform_to: first_to(f, sent, WRITE_UNIFORMS_ADDRESS),
         load_at: first_to_a(f, sent, WRITE_DMA_ADDRESS),
         store_at: first_to_b(f, sent, WRITE_DMA_ADDRESS),
-        look_unit: if look_to(f) == WRITE_TMU1_S { 1 } else { 0 },
-        look: value_to(f, sent, look_to(f)),
+        look_unit: f.look_unit(),
+        look: value_to(f, sent, f.look_address()),
     }
 }

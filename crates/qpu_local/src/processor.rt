@@ -3,11 +3,11 @@ ghost use Rattle.qpu_word.specs.Operands.{row_of};
 ghost use Rattle.qpu_word.specs.Processor.{opening_book, opening_processor};
 ghost use Rattle.qpu_word.specs.Books.{IsSoundBook};
 
-use qpu_word::{Book, Flags, Halt, LANES, Lanes, Rest};
+use qpu_word::{Book, Flags, Halt, LANES, Lanes, Rest, code};
 use std::marker::Model;
 
 /// Rows of a file.
-const ROWS: usize = 32;
+const ROWS: usize = code::ROWS as usize;
 
 /// Accumulators, r0 to r5.
 const ACCUMULATORS: usize = 6;
@@ -50,11 +50,11 @@ impl Model for Processor {
 
     ghost Value = { ProcessorState };
 
-    ghost use Rattle.qpu_local.specs.Views.{state_of, fields_back, IsSound};
+    ghost use Rattle.qpu_local.specs.Views.{processor_state, fields_back, IsSoundProcessor};
 
-    ghost view = { state_of };
+    ghost view = { processor_state };
 
-    ghost invariant = { IsSound };
+    ghost invariant = { IsSoundProcessor };
 
     ghost inverse = { fields_back };
 }

@@ -10,11 +10,11 @@ ghost use Rattle.qpu_word.specs.Instruction.{signed_pair, bit_pair, loaded, link
 use crate::flagging::{after_load, after_units};
 use crate::processor::Processor;
 use crate::reading::repeated;
-use qpu_word::code::{BRANCH_SLOTS, KIND_LOAD, KIND_LOAD_SIGNED, WORD_BYTES};
+use qpu_word::code::{BRANCH_SLOTS, INSTRUCTION_BYTES, KIND_LOAD, KIND_LOAD_SIGNED};
 use qpu_word::{Fields, Flags, Ins, LANES, Lanes};
 
 /// What a negative number of two bits adds over 32 bits.
-const SIGN_OVER_32: u32 = 0xffff_fffc;
+const SIGN_OVER_TWO_BITS: u32 = 0xffff_fffc;
 
 /// What a word sends, and the flags after it.
 #[derive(Clone, Copy, Debug)]
@@ -52,7 +52,11 @@ fn signed(pair: u32) -> u32
     requires { pair < 4 }
     ensures { result ≡ signed_pair pair }
 {
-    if pair < 2 { pair } else { pair + SIGN_OVER_32 }
+    if pair < 2 {
+        pair
+    } else {
+        pair + SIGN_OVER_TWO_BITS
+    }
 }
 
 /// The two bits of a lane in an immediate.
@@ -84,7 +88,7 @@ pub fn link(place: u32) -> u32
     requires { place < 4096 }
     ensures { result ≡ link_of place }
 {
-    WORD_BYTES * (place + 1 + BRANCH_SLOTS)
+    INSTRUCTION_BYTES * (place + 1 + BRANCH_SLOTS)
 }
 
 /// The values of a load immediate.

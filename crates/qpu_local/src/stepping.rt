@@ -12,7 +12,7 @@ ghost use Rattle.qpu_local.specs.Steps.{Steps};
 ghost use Rattle.qpu_local.specs.Views.{coming_place};
 ghost use Rattle.qpu_local.specs.Quiet.{StaysIn, IsQuiet};
 
-use crate::control::Next;
+use crate::control::NextControl;
 use crate::outs::outs;
 use crate::processor::Processor;
 use crate::sending::Sent;
@@ -45,7 +45,7 @@ fn stays_in(f: &Fields) -> bool
 fn is_quiet(f: &Fields) -> bool
     ensures { IsTrue result → IsQuiet f.now }
 {
-    f.waddr_add == NOWHERE && f.waddr_mul == NOWHERE && f.sf != 1 && !f.takes_words()
+    f.waddr_add == NOWHERE && f.waddr_mul == NOWHERE && f.sf != 1 && !f.has_tmu_load()
 }
 
 impl Processor {
@@ -61,7 +61,7 @@ impl Processor {
         }
         self.stored(
             f,
-            f.is_exchanged(),
+            f.swaps_writes(),
             f.waddr_add,
             cond_of(f, f.cond_add),
             &sent.add,
@@ -80,7 +80,7 @@ impl Processor {
         }
         self.stored(
             f,
-            !f.is_exchanged(),
+            !f.swaps_writes(),
             f.waddr_mul,
             cond_of(f, f.cond_mul),
             &sent.mul,
@@ -104,7 +104,7 @@ impl Processor {
 
     /// Moves on by one instruction.
     #[tactic(auto, unfolding(qpu_word::specs::Instruction::moved_on))]
-    fn move_on(&mut self, flags: Flags, next: Next, book: Book, raised: u32)
+    fn move_on(&mut self, flags: Flags, next: NextControl, book: Book, raised: u32)
         requires executed { self.old.executed < 1000000 }
         requires place { next.place ≤ 2 ^ 29 + self.old.executed + 1 }
         requires coming { coming_place next.rest < 2 ^ 29 }

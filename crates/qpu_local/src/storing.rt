@@ -1,7 +1,7 @@
 //! What the units leave in the registers.
 ghost use Rattle.std.specs.Prelude.{◌≡◌, ◌≢◌, ℕ, ◌<◌, ◌≤◌, Bool, not, if◌then◌else◌};
 ghost use Rattle.qpu_word.specs.Lanes.{lane};
-ghost use Rattle.qpu_word.specs.Words.{is_exchanged};
+ghost use Rattle.qpu_word.specs.Words.{swaps_writes};
 ghost use Rattle.qpu_word.specs.Fit.{IsFit};
 ghost use Rattle.qpu_word.specs.Operands.{row_of};
 ghost use Rattle.qpu_word.specs.Writing.{pack_mode, left, replicated, old_at, stored, written};
@@ -11,7 +11,7 @@ use crate::flagging::holds_in;
 use crate::processor::Processor;
 use crate::sending::sixteen;
 use qpu_pack::pack_into;
-use qpu_word::code::{ROWS, WRITE_R0, WRITE_R3, WRITE_R5};
+use qpu_word::code::{COND_ALWAYS, ROWS, WRITE_R0, WRITE_R3, WRITE_R5};
 use qpu_word::{Fields, Flags, Ins, LANES, Lanes};
 
 /// The accumulator that TMU loads write, r4 of the manual.
@@ -21,10 +21,7 @@ const LOADED: usize = 4;
 const REPLICATED: usize = 5;
 
 /// Lanes of a group whose first one goes to all of it.
-const GROUP: usize = 4;
-
-/// The condition that always holds.
-const ALWAYS: u32 = 1;
+const TURN: usize = 4;
 
 /// The packing that leaves values as they are.
 const WHOLE: u32 = 0;
@@ -68,7 +65,7 @@ fn replicated_in(in_b: bool, values: &Lanes) -> Lanes
 {
     let mut out = [0; LANES];
     for i in 0..LANES {
-        out[i] = pick(in_b, values.v[0], values.v[i / GROUP * GROUP]);
+        out[i] = pick(in_b, values.v[0], values.v[i / TURN * TURN]);
     }
     Lanes { v: out }
 }
@@ -77,7 +74,7 @@ fn replicated_in(in_b: bool, values: &Lanes) -> Lanes
 pub fn cond_of(f: &Fields, cond: u32) -> u32
     ensures { result ≡ write_cond f.now cond }
 {
-    if f.is_branch() { ALWAYS } else { cond }
+    if f.is_branch() { COND_ALWAYS } else { cond }
 }
 
 impl Processor {
@@ -103,7 +100,7 @@ impl Processor {
     {
         sixteen(values);
         let mode = pack_mode_of(f, in_b);
-        if cond == ALWAYS && mode == WHOLE {
+        if cond == COND_ALWAYS && mode == WHOLE {
             return *values;
         }
         left_of(cond, &self.flags(), mode, &self.old(in_b, address), values)
@@ -153,7 +150,7 @@ impl Processor {
         ensures { self.new ≡ put_add f.now values.now.v self.old }
     {
         if f.add_writes() {
-            self.put(f.is_exchanged(), f.waddr_add, values);
+            self.put(f.swaps_writes(), f.waddr_add, values);
         }
     }
 
@@ -163,7 +160,7 @@ impl Processor {
         ensures { self.new ≡ put_mul f.now values.now.v self.old }
     {
         if f.mul_writes() {
-            self.put(!f.is_exchanged(), f.waddr_mul, values);
+            self.put(!f.swaps_writes(), f.waddr_mul, values);
         }
     }
 
@@ -172,7 +169,7 @@ impl Processor {
     pub(crate) fn put_loaded(&mut self, f: &Fields, ins: &Ins)
         ensures { self.new ≡ put_loaded f.now ins.now self.old }
     {
-        if f.takes_words() {
+        if f.has_tmu_load() {
             self.accumulators[LOADED] = ins.loaded.v;
         }
     }

@@ -1,7 +1,7 @@
 -- A machine in which processor 0 is the only one, at the shared parts before any step.
 use Rattle.std.proofs.Common.{◌≡◌, ℕ, zero, suc, ◌+◌, Bool, true, false, List, [], ◌∷◌, replicate, Option, Some, None, Ok, refl, sym, subst, arith}
 use Rattle.std.specs.Prelude.{◌==◌, nat_lt, if◌then◌else◌, slice_index, slice_index_or}
-use Rattle.qpu_word.specs.declared.code.TheConstants.{PROCESSORS}
+use Rattle.qpu_word.specs.declared.code.TheConstants.{PROCESSORS, TMU_UNITS}
 use Rattle.qpu_word.specs.declared.state.Halt.TheVariants.{Ended}
 use Rattle.qpu_word.specs.Words.{fields_of, is_local}
 use Rattle.qpu_word.specs.Processor.{ProcessorState, opening_processor}
@@ -12,7 +12,7 @@ use Rattle.qpu_shared.specs.Instruction.{is_running, instruction, pending_of}
 use Rattle.qpu_machine.specs.declared.actor.Actor.TheVariants.{Exec, Load, Store, Fetch}
 use Rattle.qpu_machine.specs.declared.conclusion.Ending.TheVariants.{Done}
 use Rattle.qpu_machine.specs.declared.start.Start.{Start}
-use Rattle.qpu_shared.specs.Moves.{tmu_units, unit_looks, load_moved, store_moved, fetch_moved}
+use Rattle.qpu_shared.specs.Moves.{unit_looks, load_moved, store_moved, fetch_moved}
 use Rattle.qpu_machine.specs.Machine.{MachineState, machine_of, after_step}
 use Rattle.qpu_machine.specs.Ending.{IsFinal, ending_of}
 use Rattle.qpu_machine.proofs.RunLemmas.{Ran, one_more, IsAtLocal, local_step, local_enabled}
@@ -54,7 +54,7 @@ same_either false = refl
 
 -- no unit has a look-up
 no_looks : (unit : ℕ) → unit_looks nothing_pending unit ≡ []
-no_looks unit = rw (same_either (unit == 0)) (same_either (nat_lt unit tmu_units))
+no_looks unit = rw (same_either (unit == 0)) (same_either (nat_lt unit TMU_UNITS))
 
 -- where processor 0 has ended, nothing can move
 pub final_alone : (memory : List ℕ) (limit : ℕ) (code : List ℕ) (p : ProcessorState) → p.halt ≡ Ended → IsFinal (alone memory limit code p)

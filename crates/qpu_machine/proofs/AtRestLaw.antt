@@ -5,11 +5,10 @@ use Rattle.std.proofs.lemmas.Bool.Decides.{nat_tests}
 use Rattle.qpu_word.specs.declared.word.Fields.{Fields}
 use Rattle.qpu_word.specs.declared.state.Halt.{Halt}
 use Rattle.qpu_word.specs.declared.state.Halt.TheVariants.{Going, Ended, Faulted}
-use Rattle.qpu_word.specs.Words.{fields_of}
+use Rattle.qpu_word.specs.Words.{fields_of, one_if}
 use Rattle.qpu_word.specs.Processor.{ProcessorState}
 use Rattle.qpu_tmu.specs.declared.look_up.LookUp.{LookUp}
 use Rattle.qpu_tmu.specs.Looks.{is_waiting, next_look, oldest_words}
-use Rattle.qpu_hazard.specs.Demands.{one}
 use Rattle.qpu_flow.specs.Code.{fields_at}
 use Rattle.qpu_shared.specs.declared.cause.Cause.{Cause}
 use Rattle.qpu_shared.specs.declared.cause.Cause.TheVariants.{LoadWait, StoreWait, LoadStart, StoreStart, TmuLoad, Mutex, Up, Down}
@@ -39,7 +38,7 @@ no_store m q final = some_store m q ∙ off _ (final (Store q))
 
 -- look-ups of which none is next are all fetched
 one_fetched : (waits : Bool) (look : LookUp) (more : List LookUp) → is_waiting look ≡ waits → (is_some (option_map (λ (l : LookUp). l.at) (find is_waiting more)) ≡ false → waiting more ≡ 0)
-    → is_some (option_map (λ (l : LookUp). l.at) (if waits then Some look else find is_waiting more)) ≡ false → one waits + waiting more ≡ 0
+    → is_some (option_map (λ (l : LookUp). l.at) (if waits then Some look else find is_waiting more)) ≡ false → one_if waits + waiting more ≡ 0
 one_fetched true look more is rest none = absurd (cc)
 one_fetched false look more is rest none = let fetched = rest none in omega (arith, fetched)
 
@@ -58,8 +57,8 @@ looks_fetched_1 m q final = all_fetched _ (no_fetch m q 1 final)
 
 no_moves : (m : MachineState) (q : ℕ) → IsFinal m → moves_pending (pending_of m.shared q) ≡ 0
 no_moves m q final =
-    let load = ap one (no_load m q final) in
-    let store = ap one (no_store m q final) in
+    let load = ap one_if (no_load m q final) in
+    let store = ap one_if (no_store m q final) in
     let first = looks_fetched_0 m q final in
     let second = looks_fetched_1 m q final in
     omega (arith, load, store, first, second)
@@ -75,7 +74,7 @@ oldest_there : (looks : List LookUp) → 0 < length looks → waiting looks ≡ 
 oldest_there [] some fetched = absurd (omega (arith, some))
 oldest_there (look ∷ more) some fetched = by_test (is_none look.words) fetched
   where
-    by_test : (b : Bool) → one b + waiting more ≡ 0 → b ≡ false
+    by_test : (b : Bool) → one_if b + waiting more ≡ 0 → b ≡ false
     by_test true fetched = absurd (omega (arith, fetched))
     by_test false fetched = refl
 
@@ -120,8 +119,8 @@ no_own m q p sound final there runs =
       store_wait = neither _ _ (no_store m q final);
       load_start = neither _ _ (no_load m q final);
       store_start = neither _ _ (no_store m q final);
-      take_0 = takes_there _ (pending_of m.shared q).looks.looks0 (λ takes. let one = holds.looks_0.one takes in omega (arith, one, on.looks0)) (looks_fetched_0 m q final);
-      take_1 = takes_there _ (pending_of m.shared q).looks.looks1 (λ takes. let one = holds.looks_1.one takes in omega (arith, one, on.looks1)) (looks_fetched_1 m q final);
+      take_0 = takes_there _ (pending_of m.shared q).looks.looks0 (λ takes. let one_if = holds.looks_0.one takes in omega (arith, one_if, on.looks0)) (looks_fetched_0 m q final);
+      take_1 = takes_there _ (pending_of m.shared q).looks.looks1 (λ takes. let one_if = holds.looks_1.one takes in omega (arith, one_if, on.looks1)) (looks_fetched_1 m q final);
     }
 
 awaits_others : (m : MachineState) (q : ℕ) (p : ProcessorState) → IsSoundMachine m → IsFinal m → processor_of m q ≡ Some p → is_running m.limit p ≡ true

@@ -6,14 +6,13 @@ use Rattle.std.proofs.lemmas.Bool.Decides.{nat_tests}
 use Rattle.std.proofs.lemmas.List.{get_or-set_same, get_or-set_other}
 use Rattle.qpu_word.specs.declared.word.Fields.{Fields}
 use Rattle.qpu_word.specs.declared.fault.FaultKind.{FaultKind}
-use Rattle.qpu_word.specs.Words.{fields_of}
+use Rattle.qpu_word.specs.Words.{fields_of, one_if}
 use Rattle.qpu_word.specs.Processor.{ProcessorState}
 use Rattle.qpu_word.specs.Instruction.{is_link_point, halted, outs_of, add_sent, mul_sent}
 use Rattle.qpu_word.proofs.KeptLemmas.{done_moves}
 use Rattle.qpu_dma.specs.declared.transfer.Transfer.{Transfer}
 use Rattle.qpu_tmu.specs.declared.look_up.LookUp.{LookUp}
 use Rattle.qpu_tmu.specs.Looks.{with_queue, is_waiting}
-use Rattle.qpu_hazard.specs.Demands.{one}
 use Rattle.qpu_shared.specs.declared.did.Did.{Did}
 use Rattle.qpu_shared.specs.declared.did.Did.TheVariants.{Stepped, Awaits as ItAwaits, Faulted as ItFaulted}
 use Rattle.qpu_shared.specs.declared.pending.Pending.{Pending}
@@ -175,12 +174,12 @@ pub record MovesOne (h : SharedState) (q : ℕ) (left : SharedState) : Type 0 wh
   pub others : (r : ℕ) → r ≢ q → pending_of left r ≡ pending_of h r
 
 falls_move : (m : MachineState) (q : ℕ) (left : SharedState) → IsSoundMachine m → MovesOne m.shared q left → Falls m (record m { shared = left }) q
-falls_move m q left sound one =
-    let there = one.there in let own = one.own in
+falls_move m q left sound one_if =
+    let there = one_if.there in let own = one_if.own in
     record {
       few = omega (arith, there, sound.pending);
       own = omega (arith, own);
-      others = λ r apart. let pending = ap moves_pending (one.others r apart) in omega (arith, pending);
+      others = λ r apart. let pending = ap moves_pending (one_if.others r apart) in omega (arith, pending);
     }
 
 put_less : (h : SharedState) (q : ℕ) (new : Pending) → q < length h.pending → moves_pending new + 1 ≡ moves_pending (pending_of h q)
@@ -197,7 +196,7 @@ fewer_load : (h : SharedState) (q : ℕ) (left : SharedState) (load : Option Tra
     → moves_pending (pending_of left q) + 1 ≡ moves_pending (pending_of h q)
 fewer_load h q left None is there e = absurd (none_made left e)
 fewer_load h q left (Some t) is there e =
-    let some = ap (λ (o : Option Transfer). one (is_some o)) is in
+    let some = ap (λ (o : Option Transfer). one_if (is_some o)) is in
     left_made (λ s. moves_pending (pending_of s q) + 1 ≡ moves_pending (pending_of h q)) _ left e
     (put_less h q (record (pending_of h q) { load = None }) there (omega (arith, some)))
 
@@ -205,7 +204,7 @@ fewer_store : (h : SharedState) (q : ℕ) (left : SharedState) (store : Option T
     → moves_pending (pending_of left q) + 1 ≡ moves_pending (pending_of h q)
 fewer_store h q left None is there e = absurd (none_made left e)
 fewer_store h q left (Some t) is there e =
-    let some = ap (λ (o : Option Transfer). one (is_some o)) is in
+    let some = ap (λ (o : Option Transfer). one_if (is_some o)) is in
     left_made (λ s. moves_pending (pending_of s q) + 1 ≡ moves_pending (pending_of h q)) _ left e
     (put_less h q (record (pending_of h q) { store = None }) there (omega (arith, some)))
 

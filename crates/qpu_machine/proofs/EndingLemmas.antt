@@ -1,5 +1,6 @@
 -- A machine in which no processor's actor has a step is final.
 use Rattle.std.proofs.Common.{◌≡◌, ◌<◌, ◌≤◌, ℕ, suc, zero, Bool, true, false, List, length, Option, Some, None, ◌⊎◌, inl, inr, refl, ap, sym, ◌∙◌, arith}
+use Rattle.qpu_word.specs.declared.code.TheConstants.{TMU_UNITS}
 use Rattle.std.specs.Prelude.{[], nat_lt, ◌||◌, ◌==◌, is_some, if◌then◌else◌}
 use Rattle.std.proofs.Math.ListN.{get_or-eq_default}
 use Rattle.std.proofs.lemmas.Bool.{cases_lt}
@@ -10,7 +11,7 @@ use Rattle.qpu_word.specs.Processor.{ProcessorState}
 use Rattle.qpu_shared.specs.declared.pending.Pending.{Pending}
 use Rattle.qpu_shared.specs.SharedState.{nothing_pending}
 use Rattle.qpu_shared.specs.Instruction.{pending_of}
-use Rattle.qpu_shared.specs.Moves.{unit_looks, tmu_units}
+use Rattle.qpu_shared.specs.Moves.{unit_looks}
 use Rattle.qpu_machine.specs.declared.actor.Actor.{Actor}
 use Rattle.qpu_machine.specs.declared.actor.Actor.TheVariants.{Exec, Load, Store, Fetch}
 use Rattle.qpu_machine.specs.Machine.{MachineState, after_exec, after_step, is_enabled}
@@ -97,12 +98,12 @@ no_looks false first = refl
 
 fetch_past : (m : MachineState) (q unit : ℕ) → length m.shared.pending ≤ q → is_enabled m (Fetch q unit) ≡ false
 fetch_past m q unit past =
-    sym (some_fetch m q unit) ∙ ap (λ (x : Pending). is_some (next_look (unit_looks x unit))) (nothing_past m q past) ∙ no_looks (nat_lt unit tmu_units) (unit == 0)
+    sym (some_fetch m q unit) ∙ ap (λ (x : Pending). is_some (next_look (unit_looks x unit))) (nothing_past m q past) ∙ no_looks (nat_lt unit TMU_UNITS) (unit == 0)
 
 -- a TMU unit past the last
 unit_past : (m : MachineState) (q unit : ℕ) → 2 ≤ unit → is_enabled m (Fetch q unit) ≡ false
 unit_past m q unit past =
-    let none : unit_looks (pending_of m.shared q) unit ≡ [] = (let t : nat_lt unit tmu_units ≡ false = grind (arith, nat_tests) in rw t refl) in
+    let none : unit_looks (pending_of m.shared q) unit ≡ [] = (let t : nat_lt unit TMU_UNITS ≡ false = grind (arith, nat_tests) in rw t refl) in
     sym (some_fetch m q unit) ∙ ap (λ (looks : List LookUp). is_some (next_look looks)) none
 
 fetch_low : (m : MachineState) (q unit : ℕ) → has_step m q ≡ false → is_enabled m (Fetch q unit) ≡ false

@@ -11,14 +11,14 @@ use Rattle.qpu_word.specs.declared.setup.Book.{Book}
 use Rattle.qpu_word.specs.declared.fault.FaultKind.{FaultKind}
 use Rattle.qpu_word.specs.declared.fault.FaultKind.TheVariants.{LookUp as LookUpFault}
 use Rattle.qpu_word.specs.declared.code.TheConstants.{NOWHERE, READ_MUTEX, WRITE_TMU1_S}
-use Rattle.qpu_word.specs.Words.{is_semaphore, is_tmu_load, add_writes, mul_writes, reads_a, reads_b}
+use Rattle.qpu_word.specs.Words.{is_semaphore, is_tmu_load, add_writes, mul_writes, reads_a, reads_b, one_if}
 use Rattle.qpu_word.specs.Instruction.{after_setups, as_lanes, is_look_address, look_address, outs_from, sent_to, then_after}
 use Rattle.qpu_tmu.specs.declared.look_up.LookUp.{LookUp}
 use Rattle.qpu_tmu.specs.Looks.{LookupsState, queue_of, oldest_words, is_waiting, with_look, with_words}
-use Rattle.qpu_hazard.specs.Demands.{one, actions, look_place, looks_made, looks_taken}
+use Rattle.qpu_hazard.specs.Demands.{actions, look_place, looks_made, looks_taken}
 use Rattle.qpu_hazard.specs.Paths.{looks_after}
 use Rattle.qpu_shared.specs.declared.pending.Pending.{Pending}
-use Rattle.qpu_shared.specs.declared.starts.Starts.{Starts}
+use Rattle.qpu_shared.specs.declared.starts.Begun.{Begun}
 use Rattle.qpu_shared.specs.Instruction.{looks_of, after_vpm_write, load_started, store_started, word_indexes, look_issued, after_writes, after_take, after_issue, lookups_after}
 use Rattle.qpu_shared.specs.Exec.{HasRoom}
 use Rattle.qpu_shared.proofs.LocalLemmas.{nothing_nowhere}
@@ -47,15 +47,15 @@ place_is_address : (address unit : ℕ) → unit < 2 → (address == look_place 
 place_is_address address unit low is = grind (arith, nat_tests)
 
 -- the look-ups that one write makes
-made_here : (writes_it : Bool) (address unit : ℕ) → unit < 2 → (writes_it && is_look_address address) ≡ true → one (writes_it && (address == look_place unit)) ≡ one (unit_at address == unit)
+made_here : (writes_it : Bool) (address unit : ℕ) → unit < 2 → (writes_it && is_look_address address) ≡ true → one_if (writes_it && (address == look_place unit)) ≡ one_if (unit_at address == unit)
 made_here false address unit low is = absurd (cc)
-made_here true address unit low is = ap one (unit_is address unit low is)
+made_here true address unit low is = ap one_if (unit_is address unit low is)
 
-made_none : (writes_it : Bool) (address unit : ℕ) → unit < 2 → (writes_it && is_look_address address) ≡ false → one (writes_it && (address == look_place unit)) ≡ 0
+made_none : (writes_it : Bool) (address unit : ℕ) → unit < 2 → (writes_it && is_look_address address) ≡ false → one_if (writes_it && (address == look_place unit)) ≡ 0
 made_none false address unit low none = refl
 made_none true address unit low none = by_test (address == look_place unit) refl
   where
-    by_test : (b : Bool) → (address == look_place unit) ≡ b → one b ≡ 0
+    by_test : (b : Bool) → (address == look_place unit) ≡ b → one_if b ≡ 0
     by_test false is = refl
     by_test true is = let there : is_look_address address ≡ true = place_is_address address unit low is in absurd (cc)
 
@@ -124,15 +124,15 @@ none_there f add mul is = rw (no_address f is, nothing_nowhere f add mul) refl
 alone : (a b c d e g : ℕ) → b ≡ 1 → a + b + c + d + e + g ≤ 1 → a ≡ 0
 alone a b c d e g is few = omega (arith, is, few)
 
-not_one : (b : Bool) → one b ≡ 0 → b ≡ false
+not_one : (b : Bool) → one_if b ≡ 0 → b ≡ false
 not_one false is = refl
 not_one true is = absurd (omega (arith, is))
 
 mul_alone : (f : Fields) → actions f ≤ 1 → IssuesMul f → (add_writes f && is_look_address f.waddr_add) ≡ false
 unfolding actions
 mul_alone f few is =
-    not_one _ (alone (one (add_writes f && is_look_address f.waddr_add)) (one (mul_writes f && is_look_address f.waddr_mul)) (one (is_tmu_load f 0 || is_tmu_load f 1))
-    (one (reads_a f READ_MUTEX)) (one (reads_b f READ_MUTEX)) (one (is_semaphore f)) (ap one is.mul) few)
+    not_one _ (alone (one_if (add_writes f && is_look_address f.waddr_add)) (one_if (mul_writes f && is_look_address f.waddr_mul)) (one_if (is_tmu_load f 0 || is_tmu_load f 1))
+    (one_if (reads_a f READ_MUTEX)) (one_if (reads_b f READ_MUTEX)) (one_if (is_semaphore f)) (ap one_if is.mul) few)
 
 -- the look-ups of a unit that a word makes are those that it issues to the unit
 sum_of : (a b c d : ℕ) → a ≡ c → b ≡ d → a + b ≡ c + d
@@ -145,25 +145,25 @@ left_only : (n : ℕ) → n + 0 ≡ n
 left_only n = omega arith
 
 made_is : (f : Fields) (add mul : List ℕ) (unit : ℕ) → unit < 2 → actions f ≤ 1
-    → looks_made f unit ≡ one (is_some (outs_from f add mul).look && ((outs_from f add mul).look_unit == unit))
+    → looks_made f unit ≡ one_if (is_some (outs_from f add mul).look && ((outs_from f add mul).look_unit == unit))
 unfolding looks_made outs_from
 made_is f add mul unit low few =
     by_issue f _
     (λ is.
     rw (mul_there f add mul is, mul_address f is)
-    (sum_of _ _ 0 (one (unit_at f.waddr_mul == unit)) (made_none (add_writes f) f.waddr_add unit low (mul_alone f few is)) (made_here (mul_writes f) f.waddr_mul unit low is.mul)
-    ∙ right_only (one (unit_at f.waddr_mul == unit))))
+    (sum_of _ _ 0 (one_if (unit_at f.waddr_mul == unit)) (made_none (add_writes f) f.waddr_add unit low (mul_alone f few is)) (made_here (mul_writes f) f.waddr_mul unit low is.mul)
+    ∙ right_only (one_if (unit_at f.waddr_mul == unit))))
     (λ is.
     rw (add_there f add mul is, add_address f is)
-    (sum_of _ _ (one (unit_at f.waddr_add == unit)) 0 (made_here (add_writes f) f.waddr_add unit low is.add) (made_none (mul_writes f) f.waddr_mul unit low is.mul)
-    ∙ left_only (one (unit_at f.waddr_add == unit))))
+    (sum_of _ _ (one_if (unit_at f.waddr_add == unit)) 0 (made_here (add_writes f) f.waddr_add unit low is.add) (made_none (mul_writes f) f.waddr_mul unit low is.mul)
+    ∙ left_only (one_if (unit_at f.waddr_add == unit))))
     (λ is.
     rw (none_there f add mul is)
     (sum_of _ _ 0 0 (made_none (add_writes f) f.waddr_add unit low is.add) (made_none (mul_writes f) f.waddr_mul unit low is.mul)))
 
 -- what an instruction sends is what starts
 
-pub ok_same : (a b : Starts) → ◌≡◌ {A = Result Starts FaultKind} (Ok a) (Ok b) → a ≡ b
+pub ok_same : (a b : Begun) → ◌≡◌ {A = Result Begun FaultKind} (Ok a) (Ok b) → a ≡ b
 ok_same a b e = cc
 
 -- one step after another came to its end, so both did
@@ -182,7 +182,7 @@ issued_same : (look : Option Lanes) (memory : List ℕ) (issued : Option Lanes) 
 issued_same None memory issued e = ok_look None issued e
 issued_same (Some addresses) memory issued e = issued_by (list_all (λ a. nat_lt (a / 4) (length memory)) addresses.v) (Some (word_indexes addresses)) issued e
 
-pub look_starts : (outs : Outs) (memory : List ℕ) (book : Book) (starts : Starts) → after_writes outs memory book ≡ Ok starts → is_some starts.look ≡ is_some outs.look
+pub look_starts : (outs : Outs) (memory : List ℕ) (book : Book) (starts : Begun) → after_writes outs memory book ≡ Ok starts → is_some starts.look ≡ is_some outs.look
 unfolding after_writes
 look_starts outs memory book starts e =
     through (after_vpm_write outs.vpm book) _ starts (λ b _.
@@ -190,19 +190,19 @@ look_starts outs memory book starts e =
     through (load_started outs.load_at c memory) _ starts (λ load _.
     through (store_started outs.store_at c memory) _ starts (λ store _.
     through (look_issued outs.look memory) _ starts (λ look is last.
-    ap (λ (s : Starts). is_some s.look) (sym (ok_same _ _ last)) ∙ issued_same outs.look memory look is))))) e
+    ap (λ (s : Begun). is_some s.look) (sym (ok_same _ _ last)) ∙ issued_same outs.look memory look is))))) e
 
 -- the queue of a unit
 
-issue_length : (look : Option Lanes) (look_unit unit : ℕ) (looks : List LookUp) → length (after_issue look look_unit unit looks) ≡ length looks + one (is_some look && (look_unit == unit))
+issue_length : (look : Option Lanes) (look_unit unit : ℕ) (looks : List LookUp) → length (after_issue look look_unit unit looks) ≡ length looks + one_if (is_some look && (look_unit == unit))
 issue_length None look_unit unit looks = sym (left_only (length looks))
 issue_length (Some at) look_unit unit looks = by_test (look_unit == unit)
   where
-    by_test : (b : Bool) → length (if b then with_look at.v looks else looks) ≡ length looks + one b
+    by_test : (b : Bool) → length (if b then with_look at.v looks else looks) ≡ length looks + one_if b
     by_test true = length_push looks _
     by_test false = sym (left_only (length looks))
 
-take_by : (takes : Bool) (looks : List LookUp) → (takes && is_none (oldest_words looks)) ≡ false → length (if takes then drop 1 looks else looks) + one takes ≡ length looks
+take_by : (takes : Bool) (looks : List LookUp) → (takes && is_none (oldest_words looks)) ≡ false → length (if takes then drop 1 looks else looks) + one_if takes ≡ length looks
 take_by false looks free = left_only (length looks)
 take_by true [] free = absurd (cc)
 take_by true (look ∷ more) free = omega arith
@@ -222,10 +222,10 @@ unit_step f add mul look unit looks low few same free =
     count (length (after_take f unit looks)) (looks_taken f unit) (length looks) (looks_made f unit) _ (take_length f unit looks free)
     (issue_length look (outs_from f add mul).look_unit unit (after_take f unit looks)
     ∙ ap (λ (n : ℕ). length (after_take f unit looks) + n)
-    (ap (λ (b : Bool). one (b && ((outs_from f add mul).look_unit == unit))) same ∙ sym (made_is f add mul unit low few)))
+    (ap (λ (b : Bool). one_if (b && ((outs_from f add mul).look_unit == unit))) same ∙ sym (made_is f add mul unit low few)))
 
 -- the outstanding look-ups of a unit after an instruction are those that paths count
-pub looks_step : (f : Fields) (add mul memory : List ℕ) (book : Book) (starts : Starts) (lookups : LookupsState) (unit : ℕ) → unit < 2 → actions f ≤ 1
+pub looks_step : (f : Fields) (add mul memory : List ℕ) (book : Book) (starts : Begun) (lookups : LookupsState) (unit : ℕ) → unit < 2 → actions f ≤ 1
     → after_writes (outs_from f add mul) memory book ≡ Ok starts → (is_tmu_load f unit && is_none (oldest_words (queue_of lookups unit))) ≡ false
     → length (queue_of (lookups_after f (outs_from f add mul) starts.look lookups) unit) ≡ looks_after f unit (length (queue_of lookups unit))
 looks_step f add mul memory book starts lookups zero low few done free =
@@ -243,8 +243,8 @@ unit_below address = by_test (address == WRITE_TMU1_S)
     by_test true = omega arith
     by_test false = omega arith
 
-itself : (unit : ℕ) → one (unit == unit) ≡ 1
-itself unit = let same : (unit == unit) ≡ true = grind (arith, nat_tests) in ap one same
+itself : (unit : ℕ) → one_if (unit == unit) ≡ 1
+itself unit = let same : (unit == unit) ≡ true = grind (arith, nat_tests) in ap one_if same
 
 first_some : (a b : ℕ) → a ≡ 1 → 0 < a + b
 first_some a b is = omega (arith, is)

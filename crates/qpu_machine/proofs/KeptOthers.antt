@@ -1,5 +1,6 @@
 -- What a step of one processor leaves alone of what is pending.
 use Rattle.std.proofs.Common.{◌≡◌, ◌≢◌, ◌<◌, ℕ, Bool, true, false, List, [], length, map, Option, Some, None, refl, ap, sym, ◌∙◌, subst, length-set, if◌then◌else◌}
+use Rattle.qpu_word.specs.declared.code.TheConstants.{TMU_UNITS}
 use Rattle.std.proofs.lemmas.List.{get_or-set_same, get_or-set_other}
 use Rattle.std.specs.Prelude.{◌==◌, nat_lt, slice_index, slice_index_or, slice_set, option_map}
 use Rattle.qpu_word.specs.declared.word.Fields.{Fields}
@@ -9,10 +10,10 @@ use Rattle.qpu_dma.specs.declared.transfer.Transfer.{Transfer}
 use Rattle.qpu_tmu.specs.declared.look_up.LookUp.{LookUp}
 use Rattle.qpu_tmu.specs.Looks.{LookupsState, queue_of, with_queue, next_look, with_words}
 use Rattle.qpu_shared.specs.declared.pending.Pending.{Pending}
-use Rattle.qpu_shared.specs.declared.starts.Starts.{Starts}
+use Rattle.qpu_shared.specs.declared.starts.Begun.{Begun}
 use Rattle.qpu_shared.specs.SharedState.{SharedState, nothing_pending}
 use Rattle.qpu_shared.specs.Instruction.{pending_of, looks_of, shared_after}
-use Rattle.qpu_shared.specs.Moves.{tmu_units, unit_looks, fetched, after_load, after_store, after_fetch, load_moved, store_moved, fetch_moved}
+use Rattle.qpu_shared.specs.Moves.{unit_looks, fetched, after_load, after_store, after_fetch, load_moved, store_moved, fetch_moved}
 use Rattle.qpu_machine.proofs.KeptLooks.{fetched_length}
 
 -- what is left where a move is made
@@ -28,7 +29,7 @@ none_left left e = cc
 others_stay : (pending : List Pending) (q other : ℕ) (new : Pending) → other ≢ q → slice_index_or (slice_set pending q new) other nothing_pending ≡ slice_index_or pending other nothing_pending
 others_stay pending q other new apart = get_or-set_other pending q other new nothing_pending apart
 
-pub others_by_instruction : (f : Fields) (p : ProcessorState) (outs : Outs) (starts : Starts) (h : SharedState) (q other : ℕ) → p.q ≡ q → other ≢ q
+pub others_by_instruction : (f : Fields) (p : ProcessorState) (outs : Outs) (starts : Begun) (h : SharedState) (q other : ℕ) → p.q ≡ q → other ≢ q
     → pending_of (shared_after f p outs starts h) other ≡ pending_of h other
 unfolding shared_after
 others_by_instruction f p outs starts h q other is apart =
@@ -130,7 +131,7 @@ fetch_looks : (h : SharedState) (q unit u : ℕ) (left : SharedState) (looks : O
     → after_fetch h q unit looks ≡ Some left → q < length h.pending → length (queue_of (pending_of left q).looks u) ≡ length (queue_of (pending_of h q).looks u)
 fetch_looks h q unit u left None is e there = absurd (none_left left e)
 fetch_looks h q unit u left (Some new) is e there =
-    let long : length new ≡ length (queue_of (pending_of h q).looks unit) = long_by (nat_lt unit tmu_units) h.memory (looks_of (pending_of h q) unit) new is in
+    let long : length new ≡ length (queue_of (pending_of h q).looks unit) = long_by (nat_lt unit TMU_UNITS) h.memory (looks_of (pending_of h q) unit) new is in
     left_is (λ (s : SharedState). length (queue_of (pending_of s q).looks u) ≡ length (queue_of (pending_of h q).looks u)) _ left e
     (ap (λ (o : Pending). length (queue_of o.looks u)) (replaced h.pending q (record (pending_of h q) { looks = with_queue (pending_of h q).looks unit new }) there)
     ∙ queue_long (pending_of h q).looks unit u new long)
@@ -142,7 +143,7 @@ looks_by_fetch h q unit u left e there = fetch_looks h q unit u left (fetched h.
 
 -- how many processors there are
 
-pub length_kept_by_instruction : (f : Fields) (p : ProcessorState) (outs : Outs) (starts : Starts) (h : SharedState) → length (shared_after f p outs starts h).pending ≡ length h.pending
+pub length_kept_by_instruction : (f : Fields) (p : ProcessorState) (outs : Outs) (starts : Begun) (h : SharedState) → length (shared_after f p outs starts h).pending ≡ length h.pending
 unfolding shared_after
 length_kept_by_instruction f p outs starts h = length-set h.pending p.q _
 

@@ -15,7 +15,7 @@ use Rattle.qpu_word.specs.Processor.{ProcessorState}
 use Rattle.qpu_word.specs.Instruction.{is_link_point, branch_fails, place_after, rest_after, moved_on, done, halted, then_after, outs_of, add_sent, mul_sent}
 use Rattle.qpu_tmu.specs.Looks.{LookupsState}
 use Rattle.qpu_shared.specs.declared.cause.Cause.{Cause}
-use Rattle.qpu_shared.specs.declared.starts.Starts.{Starts}
+use Rattle.qpu_shared.specs.declared.starts.Begun.{Begun}
 use Rattle.qpu_shared.specs.declared.pending.Pending.{Pending}
 use Rattle.qpu_shared.specs.SharedState.{SharedState, nothing_pending}
 use Rattle.qpu_shared.specs.Instruction.{Done, outcome_of, outcome_under, first_cause, ins_of, after_reads, after_writes, shared_after, instruction_result, pending_of, pending_after, lookups_after}
@@ -39,20 +39,20 @@ pub record IsDone (is_link : ℕ → Bool) (word : ℕ) (p : ProcessorState) (h 
   pub free : first_cause (fields_of word) p.q h ≡ None
   pub holds : branch_fails is_link (fields_of word) p ≡ false
   pub book : Book
-  pub starts : Starts
+  pub starts : Begun
   pub begins : after_writes (outs_of (fields_of word) p (ins_of (fields_of word) p h)) h.memory book ≡ Ok starts
   pub is_after : after ≡ done (fields_of word) p (ins_of (fields_of word) p h) starts.book
   pub is_left : left ≡ shared_after (fields_of word) p (outs_of (fields_of word) p (ins_of (fields_of word) p h)) starts h
 
 -- taking a result apart
-begun_after : {B : Type 0} (r : Result Starts FaultKind) (k : Starts → B) (b : B) → then_after r (λ s. Ok (k s)) ≡ Ok b
-    → (starts : Starts) × (r ≡ Ok starts) × (b ≡ k starts)
+begun_after : {B : Type 0} (r : Result Begun FaultKind) (k : Begun → B) (b : B) → then_after r (λ s. Ok (k s)) ≡ Ok b
+    → (starts : Begun) × (r ≡ Ok starts) × (b ≡ k starts)
 begun_after (Ok starts) k b is = (starts, refl, cc)
 begun_after (Err kind) k b is = absurd (cc)
 
-read_after : {B : Type 0} (r : Result Book FaultKind) (g : Book → Result Starts FaultKind) (k : Starts → B) (b : B)
+read_after : {B : Type 0} (r : Result Book FaultKind) (g : Book → Result Begun FaultKind) (k : Begun → B) (b : B)
     → then_after r (λ book. then_after (g book) (λ s. Ok (k s))) ≡ Ok b
-    → (book : Book) × (starts : Starts) × (g book ≡ Ok starts) × (b ≡ k starts)
+    → (book : Book) × (starts : Begun) × (g book ≡ Ok starts) × (b ≡ k starts)
 read_after (Ok book) g k b is = let s = begun_after (g book) k b is in (book, s.0, s.1, s.2)
 read_after (Err kind) g k b is = absurd (cc)
 
@@ -118,12 +118,12 @@ on_after code p looks looks' ins book clean on holds looks0 looks1 going =
     }
 
 -- what a processor has pending after its instruction
-pub pending_left : (f : Fields) (p : ProcessorState) (outs : Outs) (starts : Starts) (h : SharedState) → p.q < length h.pending
+pub pending_left : (f : Fields) (p : ProcessorState) (outs : Outs) (starts : Begun) (h : SharedState) → p.q < length h.pending
     → pending_of (shared_after f p outs starts h) p.q ≡ pending_after f outs starts (pending_of h p.q)
 unfolding shared_after
 pending_left f p outs starts h there = get_or-set_same h.pending p.q (pending_after f outs starts (pending_of h p.q)) nothing_pending there
 
-looks_left : (f : Fields) (p : ProcessorState) (outs : Outs) (starts : Starts) (h : SharedState) → p.q < length h.pending
+looks_left : (f : Fields) (p : ProcessorState) (outs : Outs) (starts : Begun) (h : SharedState) → p.q < length h.pending
     → (pending_of (shared_after f p outs starts h) p.q).looks ≡ lookups_after f outs starts.look (pending_of h p.q).looks
 unfolding pending_after
 looks_left f p outs starts h there = ap (λ (x : Pending). x.looks) (pending_left f p outs starts h there)

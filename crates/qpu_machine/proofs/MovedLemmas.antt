@@ -1,5 +1,6 @@
 -- A machine stays sound by moves.
 use Rattle.std.proofs.Common.{◌≡◌, ◌≢◌, ◌<◌, ◌≤◌, ℕ, Bool, true, false, List, length, Option, Some, None, ◌⊎◌, inl, inr, refl, sym, subst, ap, ◌∙◌}
+use Rattle.qpu_word.specs.declared.code.TheConstants.{TMU_UNITS}
 use Rattle.std.proofs.Math.ListN.{get_or-eq_default}
 use Rattle.std.proofs.lemmas.Bool.{cases_eq, cases_lt}
 use Rattle.std.specs.Prelude.{[], nat_lt, ◌==◌, if◌then◌else◌, is_some, option_map, map, slice_index}
@@ -10,7 +11,7 @@ use Rattle.qpu_shared.specs.declared.pending.Pending.{Pending}
 use Rattle.qpu_shared.specs.SharedState.{SharedState, nothing_pending}
 use Rattle.qpu_shared.specs.Exec.{Moves}
 use Rattle.qpu_shared.specs.Instruction.{pending_of}
-use Rattle.qpu_shared.specs.Moves.{after_load, after_store, after_fetch, fetched, unit_looks, tmu_units, load_moved, store_moved, fetch_moved}
+use Rattle.qpu_shared.specs.Moves.{after_load, after_store, after_fetch, fetched, unit_looks, load_moved, store_moved, fetch_moved}
 use Rattle.qpu_machine.specs.declared.actor.Actor.TheVariants.{Load, Store, Fetch}
 use Rattle.qpu_machine.specs.Machine.{MachineState, with_shared, after_step}
 use Rattle.qpu_machine.specs.Sound.{IsSoundMachine}
@@ -55,7 +56,7 @@ unfolding fetch_moved
 fetch_there h q unit left moved (inl there) = there
 fetch_there h q unit left moved (inr past) =
     let empty : unit_looks (pending_of h q) unit ≡ [] =
-    ap (λ (x : Pending). unit_looks x unit) (nothing_past h q past) ∙ either_empty (nat_lt unit tmu_units) (unit == 0) in
+    ap (λ (x : Pending). unit_looks x unit) (nothing_past h q past) ∙ either_empty (nat_lt unit TMU_UNITS) (unit == 0) in
     let none : after_fetch h q unit (fetched h.memory (unit_looks (pending_of h q) unit)) ≡ None = ap (λ looks. after_fetch h q unit (fetched h.memory looks)) empty in
     absurd (cc)
 

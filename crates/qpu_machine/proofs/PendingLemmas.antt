@@ -8,18 +8,17 @@ use Rattle.qpu_word.specs.declared.traffic.Outs.{Outs}
 use Rattle.qpu_word.specs.declared.setup.Book.{Book}
 use Rattle.qpu_word.specs.declared.fault.FaultKind.{FaultKind}
 use Rattle.qpu_word.specs.declared.fault.FaultKind.TheVariants.{Transfer as TransferFault}
-use Rattle.qpu_word.specs.declared.code.TheConstants.{WRITE_DMA_ADDRESS}
-use Rattle.qpu_word.specs.Words.{is_exchanged, is_tmu_load, add_writes, mul_writes, writes_a, writes_b}
+use Rattle.qpu_word.specs.declared.code.TheConstants.{WRITE_DMA_ADDRESS, TMU_UNITS}
+use Rattle.qpu_word.specs.Words.{swaps_writes, is_tmu_load, add_writes, mul_writes, writes_a, writes_b, one_if}
 use Rattle.qpu_word.specs.Instruction.{after_setups, first_lane, as_lanes, is_look_address, look_address, outs_from, sent_to, sent_to_a, sent_to_b}
 use Rattle.qpu_dma.specs.declared.transfer.Transfer.{Transfer}
-use Rattle.qpu_dma.specs.Transfers.{Plan, load_plan, store_plan}
+use Rattle.qpu_dma.specs.Transfers.{TransferPlan, load_plan, store_plan}
 use Rattle.qpu_tmu.specs.declared.look_up.LookUp.{LookUp}
 use Rattle.qpu_tmu.specs.Looks.{LookupsState, with_queue, is_waiting, with_look, with_words, next_look}
-use Rattle.qpu_hazard.specs.Demands.{one}
 use Rattle.qpu_shared.specs.declared.pending.Pending.{Pending}
-use Rattle.qpu_shared.specs.declared.starts.Starts.{Starts}
-use Rattle.qpu_shared.specs.Instruction.{looks_of, after_vpm_write, started, load_started, store_started, look_issued, after_writes, or_pending, after_take, after_issue, pending_after}
-use Rattle.qpu_shared.specs.Moves.{fetched, tmu_units, unit_looks}
+use Rattle.qpu_shared.specs.declared.starts.Begun.{Begun}
+use Rattle.qpu_shared.specs.Instruction.{looks_of, after_vpm_write, transfer_started, load_started, store_started, look_issued, after_writes, or_pending, after_take, after_issue, pending_after}
+use Rattle.qpu_shared.specs.Moves.{fetched, unit_looks}
 use Rattle.qpu_machine.specs.Bound.{waiting, moves_pending}
 use Rattle.qpu_machine.proofs.KeptLooks.{ok_same, through, look_starts, by_issue, none_there}
 
@@ -34,15 +33,15 @@ take_fewer false looks = omega arith
 take_fewer true [] = omega arith
 take_fewer true (look ∷ more) = omega arith
 
-issue_more : (look : Option Lanes) (look_unit unit : ℕ) (looks : List LookUp) → waiting (after_issue look look_unit unit looks) ≤ waiting looks + one (is_some look && (look_unit == unit))
+issue_more : (look : Option Lanes) (look_unit unit : ℕ) (looks : List LookUp) → waiting (after_issue look look_unit unit looks) ≤ waiting looks + one_if (is_some look && (look_unit == unit))
 issue_more None look_unit unit looks = omega arith
 issue_more (Some at) look_unit unit looks = by_test (look_unit == unit)
   where
-    by_test : (b : Bool) → waiting (if b then with_look at.v looks else looks) ≤ waiting looks + one b
+    by_test : (b : Bool) → waiting (if b then with_look at.v looks else looks) ≤ waiting looks + one_if b
     by_test true = let both = waiting_both looks (record { at = at.v; words = None } ∷ []) in omega (arith, both)
     by_test false = omega arith
 
-one_unit : (unit : ℕ) (some : Bool) → one (some && (unit == 0)) + one (some && (unit == 1)) ≤ one some
+one_unit : (unit : ℕ) (some : Bool) → one_if (some && (unit == 0)) + one_if (some && (unit == 1)) ≤ one_if some
 one_unit zero true = omega arith
 one_unit zero false = omega arith
 one_unit (suc zero) true = omega arith
@@ -52,13 +51,13 @@ one_unit (suc (suc unit)) some = rw (apart (suc (suc unit)) 0 (omega arith), apa
     apart : (n k : ℕ) → k < n → (n == k) ≡ false
     apart n k less = grind (arith, nat_tests)
 
-    neither : (some : Bool) → one (some && false) + one (some && false) ≤ one some
+    neither : (some : Bool) → one_if (some && false) + one_if (some && false) ≤ one_if some
     neither true = omega arith
     neither false = omega arith
 
 -- what an instruction starts
 
-load_more : (new old : Option Transfer) → one (is_some (or_pending new old)) ≤ one (is_some new) + one (is_some old)
+load_more : (new old : Option Transfer) → one_if (is_some (or_pending new old)) ≤ one_if (is_some new) + one_if (is_some old)
 load_more None old = omega arith
 load_more (Some t) None = omega arith
 load_more (Some t) (Some u) = omega arith
@@ -73,8 +72,8 @@ fits_some : (b : Bool) (t : Transfer) (issued : Option Transfer) → (if b then 
 fits_some true t issued e = ok_some t issued e
 fits_some false t issued e = absurd (cc)
 
-started_some : (plan : Transfer → Plan) (memory : List ℕ) (setup : Option ℕ) (step address : ℕ) (issued : Option Transfer)
-    → started plan memory setup step address ≡ Ok issued → is_some issued ≡ true
+started_some : (plan : Transfer → TransferPlan) (memory : List ℕ) (setup : Option ℕ) (step address : ℕ) (issued : Option Transfer)
+    → transfer_started plan memory setup step address ≡ Ok issued → is_some issued ≡ true
 started_some plan memory None step address issued e = absurd (cc)
 started_some plan memory (Some setup) step address issued e = fits_some _ _ issued e
 
@@ -86,7 +85,7 @@ store_same : (at : Option ℕ) (book : Book) (memory : List ℕ) (issued : Optio
 store_same None book memory issued e = ok_none issued e
 store_same (Some address) book memory issued e = started_some store_plan memory book.store book.store_stride address issued e
 
-load_starts : (outs : Outs) (memory : List ℕ) (book : Book) (starts : Starts) → after_writes outs memory book ≡ Ok starts → is_some starts.load ≡ is_some outs.load_at
+load_starts : (outs : Outs) (memory : List ℕ) (book : Book) (starts : Begun) → after_writes outs memory book ≡ Ok starts → is_some starts.load ≡ is_some outs.load_at
 unfolding after_writes
 load_starts outs memory book starts e =
     through (after_vpm_write outs.vpm book) _ starts (λ b _.
@@ -94,9 +93,9 @@ load_starts outs memory book starts e =
     through (load_started outs.load_at c memory) _ starts (λ load is.
     through (store_started outs.store_at c memory) _ starts (λ store _.
     through (look_issued outs.look memory) _ starts (λ look _ last.
-    ap (λ (s : Starts). is_some s.load) (sym (ok_same _ _ last)) ∙ load_same outs.load_at c memory load is))))) e
+    ap (λ (s : Begun). is_some s.load) (sym (ok_same _ _ last)) ∙ load_same outs.load_at c memory load is))))) e
 
-store_starts : (outs : Outs) (memory : List ℕ) (book : Book) (starts : Starts) → after_writes outs memory book ≡ Ok starts → is_some starts.store ≡ is_some outs.store_at
+store_starts : (outs : Outs) (memory : List ℕ) (book : Book) (starts : Begun) → after_writes outs memory book ≡ Ok starts → is_some starts.store ≡ is_some outs.store_at
 unfolding after_writes
 store_starts outs memory book starts e =
     through (after_vpm_write outs.vpm book) _ starts (λ b _.
@@ -104,7 +103,7 @@ store_starts outs memory book starts e =
     through (load_started outs.load_at c memory) _ starts (λ load _.
     through (store_started outs.store_at c memory) _ starts (λ store is.
     through (look_issued outs.look memory) _ starts (λ look _ last.
-    ap (λ (s : Starts). is_some s.store) (sym (ok_same _ _ last)) ∙ store_same outs.store_at c memory store is))))) e
+    ap (λ (s : Begun). is_some s.store) (sym (ok_same _ _ last)) ∙ store_same outs.store_at c memory store is))))) e
 
 -- a word has two writes, so it starts two moves at most
 
@@ -120,39 +119,39 @@ to_store : (f : Fields) (add mul : List ℕ) → is_some (first_lane (sent_to_b 
 unfolding sent_to_b
 to_store f add mul = some_lane (writes_b f WRITE_DMA_ADDRESS) _
 
-either_file : (exchanged a b : Bool) → one (if exchanged then b else a) + one (if exchanged then a else b) ≡ one a + one b
+either_file : (exchanged a b : Bool) → one_if (if exchanged then b else a) + one_if (if exchanged then a else b) ≡ one_if a + one_if b
 either_file true a b = omega arith
 either_file false a b = refl
 
-other_place : (writes_it : Bool) (address : ℕ) → (writes_it && is_look_address address) ≡ true → one (writes_it && (address == WRITE_DMA_ADDRESS)) ≡ 0
+other_place : (writes_it : Bool) (address : ℕ) → (writes_it && is_look_address address) ≡ true → one_if (writes_it && (address == WRITE_DMA_ADDRESS)) ≡ 0
 other_place writes_it address is = grind (arith, nat_tests)
 
-pub one_most : (b : Bool) → one b ≤ 1
+pub one_most : (b : Bool) → one_if b ≤ 1
 one_most true = omega arith
 one_most false = omega arith
 
 two_writes : (f : Fields) (add mul : List ℕ)
-    → one (writes_a f WRITE_DMA_ADDRESS) + one (writes_b f WRITE_DMA_ADDRESS) + one (is_some (as_lanes (sent_to f add mul (look_address f)))) ≤ 2
+    → one_if (writes_a f WRITE_DMA_ADDRESS) + one_if (writes_b f WRITE_DMA_ADDRESS) + one_if (is_some (as_lanes (sent_to f add mul (look_address f)))) ≤ 2
 two_writes f add mul =
-    let a : ℕ = one (add_writes f && (f.waddr_add == WRITE_DMA_ADDRESS)) in
-    let m : ℕ = one (mul_writes f && (f.waddr_mul == WRITE_DMA_ADDRESS)) in
-    let files : one (writes_a f WRITE_DMA_ADDRESS) + one (writes_b f WRITE_DMA_ADDRESS) ≡ a + m =
-    either_file (is_exchanged f) (add_writes f && (f.waddr_add == WRITE_DMA_ADDRESS)) (mul_writes f && (f.waddr_mul == WRITE_DMA_ADDRESS)) in
+    let a : ℕ = one_if (add_writes f && (f.waddr_add == WRITE_DMA_ADDRESS)) in
+    let m : ℕ = one_if (mul_writes f && (f.waddr_mul == WRITE_DMA_ADDRESS)) in
+    let files : one_if (writes_a f WRITE_DMA_ADDRESS) + one_if (writes_b f WRITE_DMA_ADDRESS) ≡ a + m =
+    either_file (swaps_writes f) (add_writes f && (f.waddr_add == WRITE_DMA_ADDRESS)) (mul_writes f && (f.waddr_mul == WRITE_DMA_ADDRESS)) in
     let few_a = one_most (add_writes f && (f.waddr_add == WRITE_DMA_ADDRESS)) in
     let few_m = one_most (mul_writes f && (f.waddr_mul == WRITE_DMA_ADDRESS)) in
     let few_l = one_most (is_some (as_lanes (sent_to f add mul (look_address f)))) in
     by_issue f _
     (λ is. let none = other_place (mul_writes f) f.waddr_mul is.mul in omega (arith, files, few_a, few_m, few_l, none))
     (λ is. let none = other_place (add_writes f) f.waddr_add is.add in omega (arith, files, few_a, few_m, few_l, none))
-    (λ is. let none : one (is_some (as_lanes (sent_to f add mul (look_address f)))) ≡ 0 = ap one (none_there f add mul is) in omega (arith, files, few_a, few_m, few_l, none))
+    (λ is. let none : one_if (is_some (as_lanes (sent_to f add mul (look_address f)))) ≡ 0 = ap one_if (none_there f add mul is) in omega (arith, files, few_a, few_m, few_l, none))
 
 two_outs : (f : Fields) (add mul : List ℕ)
-    → one (is_some (outs_from f add mul).load_at) + one (is_some (outs_from f add mul).store_at) + one (is_some (outs_from f add mul).look) ≤ 2
+    → one_if (is_some (outs_from f add mul).load_at) + one_if (is_some (outs_from f add mul).store_at) + one_if (is_some (outs_from f add mul).look) ≤ 2
 unfolding outs_from
 two_outs f add mul = rw (to_load f add mul, to_store f add mul) (two_writes f add mul)
 
 -- so an instruction makes two more pending at most
-pub moves_by_instruction : (f : Fields) (add mul memory : List ℕ) (book : Book) (starts : Starts) (pending : Pending) → after_writes (outs_from f add mul) memory book ≡ Ok starts
+pub moves_by_instruction : (f : Fields) (add mul memory : List ℕ) (book : Book) (starts : Begun) (pending : Pending) → after_writes (outs_from f add mul) memory book ≡ Ok starts
     → moves_pending (pending_after f (outs_from f add mul) starts pending) ≤ moves_pending pending + 2
 unfolding pending_after
 moves_by_instruction f add mul memory book starts pending begins =
@@ -164,9 +163,9 @@ moves_by_instruction f add mul memory book starts pending begins =
     let took0 = take_fewer (is_tmu_load f 0) pending.looks.looks0 in
     let took1 = take_fewer (is_tmu_load f 1) pending.looks.looks1 in
     let unit = one_unit outs.look_unit (is_some starts.look) in
-    let l = ap one (load_starts outs memory book starts begins) in
-    let s = ap one (store_starts outs memory book starts begins) in
-    let k = ap one (look_starts outs memory book starts begins) in
+    let l = ap one_if (load_starts outs memory book starts begins) in
+    let s = ap one_if (store_starts outs memory book starts begins) in
+    let k = ap one_if (look_starts outs memory book starts begins) in
     let two = two_outs f add mul in
     omega (arith, load, store, first, second, took0, took1, unit, l, s, k, two)
 
@@ -176,9 +175,9 @@ moves_by_instruction f add mul memory book starts pending begins =
 one_waits : (waits : Bool) (words : List ℕ) (look : LookUp) (more : List LookUp)
     → (is_some (option_map (λ (l : LookUp). l.at) (find is_waiting more)) ≡ true → waiting (with_words words more) + 1 ≡ waiting more) → is_waiting look ≡ waits
     → is_some (option_map (λ (l : LookUp). l.at) (if waits then Some look else find is_waiting more)) ≡ true
-    → waiting (if waits then record look { words = Some words } ∷ more else look ∷ with_words words more) + 1 ≡ one waits + waiting more
+    → waiting (if waits then record look { words = Some words } ∷ more else look ∷ with_words words more) + 1 ≡ one_if waits + waiting more
 one_waits true words look more rest is some = omega arith
-one_waits false words look more rest is some = let less = rest some in let none = ap one is in omega (arith, less, none)
+one_waits false words look more rest is some = let less = rest some in let none = ap one_if is in omega (arith, less, none)
 
 some_waits : (words : List ℕ) (looks : List LookUp) → is_some (next_look looks) ≡ true → waiting (with_words words looks) + 1 ≡ waiting looks
 some_waits words [] some = absurd (cc)
@@ -206,4 +205,4 @@ queue_fewer false lookups new less = omega (arith, less)
 pub moves_by_fetch : (memory : List ℕ) (pending : Pending) (unit : ℕ) (new : List LookUp) → fetched memory (unit_looks pending unit) ≡ Some new
     → moves_pending (record pending { looks = with_queue pending.looks unit new }) + 1 ≡ moves_pending pending
 moves_by_fetch memory pending unit new e =
-    let less = queue_fewer (unit == 0) pending.looks new (fetched_fewer (nat_lt unit tmu_units) memory (looks_of pending unit) new e) in omega (arith, less)
+    let less = queue_fewer (unit == 0) pending.looks new (fetched_fewer (nat_lt unit TMU_UNITS) memory (looks_of pending unit) new e) in omega (arith, less)

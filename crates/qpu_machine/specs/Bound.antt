@@ -4,7 +4,7 @@ use Rattle.qpu_word.specs.declared.code.TheConstants.{PROCESSORS}
 use Rattle.qpu_word.specs.Processor.{ProcessorState}
 use Rattle.qpu_tmu.specs.declared.look_up.LookUp.{LookUp}
 use Rattle.qpu_tmu.specs.Looks.{is_waiting}
-use Rattle.qpu_hazard.specs.Demands.{one}
+use Rattle.qpu_word.specs.Words.{one_if}
 use Rattle.qpu_shared.specs.declared.pending.Pending.{Pending}
 use Rattle.qpu_shared.specs.Instruction.{is_going, pending_of}
 use Rattle.qpu_machine.specs.declared.actor.Actor.{Actor}
@@ -20,11 +20,11 @@ instructions_left limit (Some p) = if is_going p.halt then limit - p.executed el
 -- how many look-ups aren't fetched
 abbrev pub waiting : List LookUp → ℕ
 waiting [] = 0
-waiting (look ∷ more) = one (is_waiting look) + waiting more
+waiting (look ∷ more) = one_if (is_waiting look) + waiting more
 
 -- how many moves a processor has pending
 abbrev pub moves_pending : Pending → ℕ
-moves_pending pending = one (is_some pending.load) + one (is_some pending.store) + (waiting pending.looks.looks0 + waiting pending.looks.looks1)
+moves_pending pending = one_if (is_some pending.load) + one_if (is_some pending.store) + (waiting pending.looks.looks0 + waiting pending.looks.looks1)
 
 -- how many steps the actors of a processor have left at most: each instruction with the two moves
 -- that it can make pending, and the moves that are pending
@@ -43,4 +43,4 @@ steps_left m = sum_below (steps_left_of m) PROCESSORS
 -- how many instructions of a processor stand in a schedule
 abbrev pub instructions_of : List Actor → ℕ → ℕ
 instructions_of [] q = 0
-instructions_of (actor ∷ s) q = one (is_same_actor actor (Exec q)) + instructions_of s q
+instructions_of (actor ∷ s) q = one_if (is_same_actor actor (Exec q)) + instructions_of s q

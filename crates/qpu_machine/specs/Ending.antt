@@ -41,10 +41,3 @@ ending_of m =
     else if list_any (runs m.limit) m.processors then Stuck
     else if list_any (has_run_out m.limit) m.processors then RanOut
     else Done
-
--- the exit status of a run with an ending
-abbrev pub status_of : Ending → ℕ
-status_of Done = 0
-status_of Stuck = 8
-status_of RanOut = 9
-status_of SomeFaulted = 10

@@ -1,13 +1,13 @@
 -- What a machine keeps of each processor that goes on: a path of its program to where it stands.
 -- This project's own.
 use Rattle.std.specs.Prelude.{◌≡◌, ◌≢◌, ◌≤◌, ◌+◌, ℕ, List, length, is_some}
+use Rattle.qpu_word.specs.declared.code.TheConstants.{LOOK_UPS}
 use Rattle.qpu_word.specs.declared.state.Halt.TheVariants.{Going}
 use Rattle.qpu_word.specs.Processor.{ProcessorState}
 use Rattle.qpu_tmu.specs.Looks.{LookupsState}
 use Rattle.qpu_shared.specs.SharedState.{SharedState}
 use Rattle.qpu_shared.specs.Instruction.{pending_of}
-use Rattle.qpu_hazard.specs.declared.demands.TheConstants.{LOOKS_MOST}
-use Rattle.qpu_hazard.specs.Paths.{IsPath, flags_of, carry_of, looks_of}
+use Rattle.qpu_hazard.specs.Paths.{IsPath, flags_defined, c_defined, outstanding_looks}
 use Rattle.qpu_hazard.specs.Standing.{ProcessorStands}
 
 -- a processor stands on a path of its program, which breaks no rule: at its place, with the same in
@@ -16,10 +16,10 @@ pub record IsOnPath (code : List ℕ) (p : ProcessorState) (looks : LookupsState
   pub path : List ℕ
   pub is_path : IsPath code path
   pub stands : ProcessorStands code path p.place p.rest
-  pub flags : is_some p.flags.zn ≡ flags_of code path
-  pub carry : is_some p.flags.c ≡ carry_of code path
-  pub looks0 : length looks.looks0 ≡ looks_of code 0 path
-  pub looks1 : length looks.looks1 ≡ looks_of code 1 path
+  pub flags : is_some p.flags.zn ≡ flags_defined code path
+  pub carry : is_some p.flags.c ≡ c_defined code path
+  pub looks0 : length looks.looks0 ≡ outstanding_looks code 0 path
+  pub looks1 : length looks.looks1 ≡ outstanding_looks code 1 path
 
 -- a processor that goes on does
 abbrev pub IsKept : List ℕ → ProcessorState → LookupsState → Type 0
@@ -31,7 +31,7 @@ IsKeptAlone code p = (looks : LookupsState) × IsKept code p looks
 
 -- no unit has more look-ups outstanding than it may
 abbrev pub HasFewLooks : LookupsState → Type 0
-HasFewLooks looks = (length looks.looks0 ≤ LOOKS_MOST) × (length looks.looks1 ≤ LOOKS_MOST)
+HasFewLooks looks = (length looks.looks0 ≤ LOOK_UPS) × (length looks.looks1 ≤ LOOK_UPS)
 
 -- what a word of processor q keeps, whatever became of it: the number, a count that grows by one at
 -- most, where the processor stands, few look-ups, what others have pending, and for how many there

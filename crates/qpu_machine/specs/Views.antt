@@ -11,8 +11,8 @@ pub record Started : Type 0 where
   pub starts : List Start
 
 -- the state of the parts
-abbrev pub state_of : Inside → MachineState
-state_of inside = record {
+abbrev pub machine_state : Inside → MachineState
+machine_state inside = record {
   limit = inside.limit;
   programs = (arc_value inside.programs).list.items;
   program_of = inside.program_of;
@@ -21,4 +21,4 @@ state_of inside = record {
 }
 
 abbrev pub started_of : Inside → Started
-started_of inside = record { state = state_of inside; starts = inside.starts.items }
+started_of inside = record { state = machine_state inside; starts = inside.starts.items }

@@ -8,11 +8,12 @@ use arrayvec::ArrayVec;
 use qpu_hazard::Programs;
 use qpu_local::Processor;
 use qpu_shared::Shared;
+use qpu_word::code;
 use std::marker::Model;
 use std::sync::Arc;
 
 /// How many processors a machine may have.
-pub(crate) const PROCESSORS: usize = 12;
+pub(crate) const PROCESSORS: usize = code::PROCESSORS as usize;
 
 /// A machine: a limit of instructions, checked programs, up to twelve processors and what they
 /// share. Contracts see its `MachineState` and its starts. Each processor that goes on stands on a
@@ -29,14 +30,14 @@ pub struct Machine {
 }
 
 impl Model for Machine {
-    ghost use Rattle.qpu_machine.specs.Views.{Started, started_of, state_of};
+    ghost use Rattle.qpu_machine.specs.Views.{Started, started_of, machine_state};
     ghost use Rattle.qpu_machine.specs.Sound.{IsWhole};
 
     ghost Value = { Started };
 
     ghost view = { started_of };
 
-    ghost invariant = { λ inside. IsWhole inside.starts.items (state_of inside) };
+    ghost invariant = { λ inside. IsWhole inside.starts.items (machine_state inside) };
 }
 
 impl Machine {

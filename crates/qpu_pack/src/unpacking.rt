@@ -10,7 +10,7 @@ use qpu_word::{LANES, Lanes, byte_of, number_of};
 const HALF_SIGN: u32 = 0x8000;
 
 /// What the sign of a negative half word adds over 32 bits.
-const SIGN_OVER_32: u32 = 0xffff_0000;
+const SIGN_OVER_HALF: u32 = 0xffff_0000;
 
 /// A half word with its sign over 32 bits.
 fn extended(half: u32) -> u32
@@ -20,7 +20,7 @@ fn extended(half: u32) -> u32
     if half < HALF_SIGN {
         half
     } else {
-        half + SIGN_OVER_32
+        half + SIGN_OVER_HALF
     }
 }
 

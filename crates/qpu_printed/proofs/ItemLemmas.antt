@@ -1,15 +1,16 @@
 -- The items of a permitted schedule are in range: its steps are of processors and units that there
 -- are, and each takes one from what its actor has left.
 use Rattle.std.proofs.Common.{◌≡◌, ◌≤◌, ◌+◌, ℕ, Bool, true, false, List, [], ◌∷◌, length, Some, refl, subst, ap, arith}
+use Rattle.qpu_word.specs.declared.code.TheConstants.{TMU_UNITS}
 use Rattle.std.specs.Prelude.{nat_lt, is_some, if◌then◌else◌}
 use Rattle.std.specs.List.{AllByRecursion}
 use Rattle.std.proofs.lemmas.Bool.Decides.{nat_tests}
 use Rattle.qpu_tmu.specs.declared.look_up.LookUp.{LookUp}
-use Rattle.qpu_hazard.specs.Demands.{one}
+use Rattle.qpu_word.specs.Words.{one_if}
 use Rattle.qpu_shared.specs.declared.pending.Pending.{Pending}
 use Rattle.qpu_shared.specs.SharedState.{SharedState}
 use Rattle.qpu_shared.specs.Instruction.{looks_of, pending_of}
-use Rattle.qpu_shared.specs.Moves.{after_fetch, fetched, tmu_units, fetch_moved}
+use Rattle.qpu_shared.specs.Moves.{after_fetch, fetched, fetch_moved}
 use Rattle.qpu_machine.specs.declared.actor.Actor.{Actor}
 use Rattle.qpu_machine.specs.declared.actor.Actor.TheVariants.{Exec, Load, Store, Fetch}
 use Rattle.qpu_machine.specs.declared.journal.Run.{Run}
@@ -73,7 +74,7 @@ unit_low false memory looks h q unit left moved = absurd (cc)
 unit_few : (h : SharedState) (q unit : ℕ) (left : SharedState) → fetch_moved h q unit ≡ Some left → unit ≤ 1
 unfolding fetch_moved
 unit_few h q unit left moved =
-    let low : nat_lt unit tmu_units ≡ true = unit_low (nat_lt unit tmu_units) h.memory (looks_of (pending_of h q) unit) h q unit left moved in less unit low
+    let low : nat_lt unit TMU_UNITS ≡ true = unit_low (nat_lt unit TMU_UNITS) h.memory (looks_of (pending_of h q) unit) h q unit left moved in less unit low
   where
     less : (n : ℕ) → nat_lt n 2 ≡ true → n ≤ 1
     less n low = grind (arith, nat_tests)
@@ -81,7 +82,7 @@ unit_few h q unit left moved =
 less_exec : (m : MachineState) (q : ℕ) (n : MachineState) → IsSoundMachine m → Step m (Exec q) n
     → instructions_left n.limit (processor_of n q) + 1 ≤ instructions_left m.limit (processor_of m q)
 less_exec m q n sound step =
-    let few = instructions_bounded q sound (next step here) in let own = ap one (is_same (Exec q)) in omega (arith, few, own)
+    let few = instructions_bounded q sound (next step here) in let own = ap one_if (is_same (Exec q)) in omega (arith, few, own)
 
 takes_move : (m n : MachineState) (q : ℕ) (left : SharedState) → n ≡ record m { shared = left } → MovesOne m.shared q left
     → moves_pending (pending_of n.shared q) + 1 ≤ moves_pending (pending_of m.shared q)

@@ -62,9 +62,9 @@ abbrev pub Fails : {Y : Type 0} → RecordFault → Result Y RecordFault → Typ
 Fails fault.Memory due = Unit {0}
 Fails other due = due ≡ Err other
 
-abbrev pub Gives : {X Y : Type 0} → (X → Y) → Result X RecordFault → Result Y RecordFault → Type 0
-Gives view (Ok x) due = due ≡ Ok (view x)
-Gives view (Err fault) due = Fails fault due
+abbrev pub GivesRecord : {X Y : Type 0} → (X → Y) → Result X RecordFault → Result Y RecordFault → Type 0
+GivesRecord view (Ok x) due = due ≡ Ok (view x)
+GivesRecord view (Err fault) due = Fails fault due
 
 abbrev pub parts_of : RecordParts → Parts
 parts_of parts = record {

@@ -2,7 +2,7 @@
 
 ghost use Rattle.std.specs.Prelude.{◌≡◌, ◌+◌, ◌≤◌, [], length, IfOk, string_bytes};
 ghost use Rattle.qpu_record.specs.declared.parts.TheConstants.{MOST_TEXT};
-ghost use Rattle.qpu_record.specs.Reading.{is_end, schedule_of, schedule_told, record_of, parts_of, Gives};
+ghost use Rattle.qpu_record.specs.Reading.{is_end, schedule_of, schedule_told, record_of, parts_of, GivesRecord};
 
 use crate::fault::RecordFault;
 use crate::heading::heading_of;
@@ -29,7 +29,7 @@ pub(crate) struct Schedule<'a> {
 #[tactic(auto, unfolding(crate::specs::Reading::record_of))]
 pub fn read_record(alloc: Global, text: &str) -> Result<RecordParts, RecordFault>
     requires { length text.now ≤ MOST_TEXT }
-    ensures answer { Gives parts_of result (record_of text.now) }
+    ensures answer { GivesRecord parts_of result (record_of text.now) }
     ensures sizes { IfOk result (λ parts. length (string_bytes parts.job) + length (string_bytes parts.rest) ≤ length text.now) }
     ensures lines { IfOk result (λ parts. parts.rest_line + length (string_bytes parts.rest) ≤ MOST_TEXT + 1) }
 {
@@ -48,7 +48,7 @@ pub fn read_record(alloc: Global, text: &str) -> Result<RecordParts, RecordFault
 /// The items from a line of this number on, up to the line `endrecord`.
 fn read_items(alloc: Global, first: u32, text: &str) -> Result<Schedule<'_>, RecordFault>
     requires { first + length text.now ≤ MOST_TEXT }
-    ensures answer { Gives schedule_told result (schedule_of first [] [] text.now) }
+    ensures answer { GivesRecord schedule_told result (schedule_of first [] [] text.now) }
     ensures sizes { IfOk result (λ schedule. length schedule.rest.now ≤ length text.now) }
     ensures lines { IfOk result (λ schedule. schedule.rest_line + length schedule.rest.now ≤ MOST_TEXT + 1) }
 {

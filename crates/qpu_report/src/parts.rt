@@ -8,19 +8,14 @@ use crate::rows::{is_clear, put_row};
 use qpu_io::{Piece, Sink, SinkFailed, put_all};
 use qpu_mem::{GROUP, Memory};
 use qpu_vpm::Vpm;
-
-/// Rows of the VPM.
-const ROWS: u32 = 64;
-
-/// Bytes of a word of memory.
-const WORD_BYTES: u32 = 4;
+use qpu_word::code::{VPM_ROWS, WORD_BYTES};
 
 /// Writes the lines of the VPM's rows.
 #[tactic(auto, unfolding(crate::specs::Report::vpm_text))]
 pub(crate) fn put_vpm<K: Sink>(vpm: &Vpm, sink: &mut K) -> Result<(), SinkFailed>
     ensures { Prints (K.shown sink.old) (K.shown sink.new) (vpm_text vpm.now) result }
 {
-    for row in 0..ROWS {
+    for row in 0..VPM_ROWS {
         put_row(b"vpm ", row, vpm.row(row), sink)?;
     }
     Ok(())

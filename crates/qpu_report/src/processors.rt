@@ -13,15 +13,10 @@ use crate::rows::{put_flags, put_row};
 use qpu_io::{Piece, Sink, SinkFailed, put_all, write_all_of};
 use qpu_local::{Halt, Processor};
 use qpu_machine::Machine;
-
-/// Rows of a file.
-const ROWS: u32 = 32;
+use qpu_word::code::{PROCESSORS, ROWS};
 
 /// Accumulators, r0 to r5.
 const ACCUMULATORS: u32 = 6;
-
-/// Processors of a machine.
-const PROCESSORS: u32 = 12;
 
 /// Writes the lines of the processors that were started, in the order of their numbers.
 pub(crate) fn put_processors<K: Sink>(machine: &Machine, sink: &mut K) -> Result<(), SinkFailed>

@@ -6,18 +6,18 @@ use Rattle.qpu_word.specs.declared.setup.Book.{Book}
 use Rattle.qpu_word.specs.declared.traffic.Ins.{Ins}
 use Rattle.qpu_word.specs.declared.traffic.Outs.{Outs}
 use Rattle.qpu_word.specs.declared.fault.FaultKind.{FaultKind}
-use Rattle.qpu_word.specs.declared.code.TheConstants.{NOWHERE, WRITE_TMU1_S}
+use Rattle.qpu_word.specs.declared.code.TheConstants.{NOWHERE, WRITE_TMU1_S, LOOK_UPS}
 use Rattle.qpu_word.specs.Words.{fields_of, is_branch}
 use Rattle.qpu_word.specs.Processor.{ProcessorState}
 use Rattle.qpu_word.specs.Instruction.{outs_from, outs_of, look_address, sent_to, as_lanes, then_after, branch_fails, done}
 use Rattle.qpu_word.proofs.ProfileLemmas.{every_row}
 use Rattle.qpu_shared.specs.declared.cause.Cause.TheVariants.{LoadWait}
 use Rattle.qpu_shared.specs.declared.pending.Pending.{Pending}
-use Rattle.qpu_shared.specs.declared.starts.Starts.{Starts}
+use Rattle.qpu_shared.specs.declared.starts.Begun.{Begun}
 use Rattle.qpu_shared.specs.SharedState.{SharedState}
 use Rattle.qpu_shared.specs.Instruction.{Done, Faults, outcome_under, awaits, causes_of, first_cause, ins_of, after_reads, after_writes, shared_after, instruction_result, looks_of}
 use Rattle.qpu_shared.specs.Free.{IsFree}
-use Rattle.qpu_shared.specs.Exec.{look_ups, HasRoom}
+use Rattle.qpu_shared.specs.Exec.{HasRoom}
 use Rattle.qpu_shared.proofs.LocalLemmas.{nothing_nowhere}
 
 -- where no cause holds, nothing is awaited
@@ -52,7 +52,7 @@ look_somewhere f add mul some is =
 
 -- and the unit to which it goes has room
 pub room_found : (f : Fields) (add mul : List ℕ) (pending : Pending) → HasRoom f pending → IsSome (outs_from f add mul).look
-    → length (looks_of pending (outs_from f add mul).look_unit) < look_ups
+    → length (looks_of pending (outs_from f add mul).look_unit) < LOOK_UPS
 unfolding outs_from
 room_found f add mul pending room some = room (look_somewhere f add mul some)
 
@@ -62,11 +62,11 @@ unfolding branch_fails
 no_branch is_link f p straight = rw straight refl
 
 -- what an instruction starts and the book that it leaves, or its first fault
-abbrev pub due_of : Fields → Outs → List ℕ → Book → Result Starts FaultKind
+abbrev pub due_of : Fields → Outs → List ℕ → Book → Result Begun FaultKind
 due_of f outs memory book = then_after (after_reads f memory book) (λ b. after_writes outs memory b)
 
 -- the same for equal fields, sendings and books
-due_same : (f g : Fields) (outs outs' : Outs) (book book' : Book) (memory : List ℕ) (r : Result Starts FaultKind) → f ≡ g → outs ≡ outs' → book ≡ book'
+due_same : (f g : Fields) (outs outs' : Outs) (book book' : Book) (memory : List ℕ) (r : Result Begun FaultKind) → f ≡ g → outs ≡ outs' → book ≡ book'
     → r ≡ due_of f outs memory book → r ≡ due_of g outs' memory book'
 due_same f g outs outs' book book' memory r f_is outs_is book_is due =
     due ∙ ap (λ (x : Fields). due_of x outs memory book) f_is ∙ ap (λ (o : Outs). due_of g o memory book) outs_is ∙ ap (λ (b : Book). due_of g outs' memory b) book_is
@@ -89,7 +89,7 @@ result_due is_link word p h straight =
     (λ starts. Ok (done (fields_of word) p (ins_of (fields_of word) p h) starts.book, shared_after (fields_of word) p (outs_of (fields_of word) p (ins_of (fields_of word) p h)) starts h)))
 
 -- where nothing faults
-pub result_done : (is_link : ℕ → Bool) (word : ℕ) (p : ProcessorState) (h : SharedState) (starts : Starts) → is_branch (fields_of word) ≡ false
+pub result_done : (is_link : ℕ → Bool) (word : ℕ) (p : ProcessorState) (h : SharedState) (starts : Begun) → is_branch (fields_of word) ≡ false
     → due_of (fields_of word) (outs_of (fields_of word) p (ins_of (fields_of word) p h)) h.memory p.book ≡ Ok starts
     → instruction_result is_link word p h
     ≡ Ok (done (fields_of word) p (ins_of (fields_of word) p h) starts.book, shared_after (fields_of word) p (outs_of (fields_of word) p (ins_of (fields_of word) p h)) starts h)
@@ -103,7 +103,7 @@ result_fault is_link word p h kind straight due = rw (result_due is_link word p 
 
 -- the whole instruction, from what the calls of its parts gave
 pub exec_done : (is_link : ℕ → Bool) (word q : ℕ) (p : ProcessorState) (h : SharedState) (f : Fields) (before : Book) (ins : Ins) (outs : Outs)
-    (starts : Starts) (after : ProcessorState) (left : SharedState)
+    (starts : Begun) (after : ProcessorState) (left : SharedState)
     → f ≡ fields_of word → is_branch (fields_of word) ≡ false → first_cause (fields_of word) q h ≡ None
     → before ≡ p.book → ins ≡ ins_of f p h → outs ≡ outs_of (fields_of word) p ins → Ok starts ≡ due_of f outs h.memory before
     → after ≡ done (fields_of word) p ins starts.book → left ≡ shared_after f p outs starts h

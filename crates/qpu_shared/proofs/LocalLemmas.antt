@@ -14,7 +14,7 @@ use Rattle.qpu_word.proofs.StepLemmas.{or_left, or_right, nothing_sent}
 use Rattle.qpu_word.proofs.AloneLemmas.{IsAlone, alone}
 use Rattle.qpu_shared.specs.declared.cause.Cause.TheVariants.{LoadWait, StoreWait, LoadStart, StoreStart, TmuLoad, Mutex, Up, Down}
 use Rattle.qpu_shared.specs.declared.pending.Pending.{Pending}
-use Rattle.qpu_shared.specs.declared.starts.Starts.{Starts}
+use Rattle.qpu_shared.specs.declared.starts.Begun.{Begun}
 use Rattle.qpu_shared.specs.SharedState.{SharedState}
 use Rattle.qpu_shared.specs.Instruction.{Outcome, Faults, Done, awaits, first_cause, ins_of, after_reads, after_writes, shared_after, mutex_after, semaphores_after, pending_after, pending_of, instruction_result, outcome_of, outcome_under, is_running, instruction}
 
@@ -107,7 +107,7 @@ plain_outs f add mul a = record {
 }
 
 -- what starts where nothing is sent but to the setups
-abbrev pub plain_starts : Outs → Book → Starts
+abbrev pub plain_starts : Outs → Book → Begun
 plain_starts outs book = record { book = after_uniform_to outs.uniform_to book; load = None; store = None; look = None }
 
 pub plain_writes : (outs : Outs) (memory : List ℕ) (book : Book) → IsPlainOuts outs

@@ -17,7 +17,7 @@ use Rattle.qpu_word.proofs.SameMeaning.{writes_same, writes_a_same, writes_b_sam
 use Rattle.qpu_word.proofs.MeaningLaw.{alike, links_same, after_same, unless_same}
 use Rattle.qpu_shared.specs.declared.cause.Cause.TheVariants.{LoadWait, StoreWait, LoadStart, StoreStart, TmuLoad, Mutex, Up, Down}
 use Rattle.qpu_shared.specs.declared.pending.Pending.{Pending}
-use Rattle.qpu_shared.specs.declared.starts.Starts.{Starts}
+use Rattle.qpu_shared.specs.declared.starts.Begun.{Begun}
 use Rattle.qpu_shared.specs.SharedState.{SharedState}
 use Rattle.qpu_shared.specs.Instruction.{awaits, first_cause, ins_of, taken_words, after_uniform_read, after_vpm_read, after_reads, after_writes, mutex_after, semaphores_after, pending_after, pending_of, shared_after, instruction_result, instruction, is_down, count_of}
 
@@ -106,11 +106,11 @@ unfolding semaphores_after
 counts_by f g s counts true is = rw (s.semaphore, is, s.down is, s.number is) refl
 counts_by f g s counts false is = rw (s.semaphore, is) refl
 
-pending_same : (f g : Fields) → Alike f g → (outs : Outs) (starts : Starts) (pending : Pending) → pending_after g outs starts pending ≡ pending_after f outs starts pending
+pending_same : (f g : Fields) → Alike f g → (outs : Outs) (starts : Begun) (pending : Pending) → pending_after g outs starts pending ≡ pending_after f outs starts pending
 unfolding pending_after
 pending_same f g s outs starts pending = rw (s.take0, s.take1) refl
 
-shared_same : (f g : Fields) → Alike f g → (p : ProcessorState) (outs : Outs) (starts : Starts) (h : SharedState) → shared_after g p outs starts h ≡ shared_after f p outs starts h
+shared_same : (f g : Fields) → Alike f g → (p : ProcessorState) (outs : Outs) (starts : Begun) (h : SharedState) → shared_after g p outs starts h ≡ shared_after f p outs starts h
 unfolding shared_after
 shared_same f g s p outs starts h =
     rw (mutex_same f g s p.q h.mutex, counts_by f g s h.semaphores (is_semaphore f) refl, pending_same f g s outs starts (pending_of h p.q)) refl

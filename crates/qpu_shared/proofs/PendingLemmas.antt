@@ -7,26 +7,26 @@ use Rattle.std.specs.Prelude.{All, slice_index_or, slice_set}
 use Rattle.qpu_word.specs.declared.word.Fields.{Fields}
 use Rattle.qpu_word.specs.declared.traffic.Outs.{Outs}
 use Rattle.qpu_dma.specs.declared.transfer.Transfer.{Transfer}
-use Rattle.qpu_dma.specs.Transfers.{Plan, load_plan, store_plan}
+use Rattle.qpu_dma.specs.Transfers.{TransferPlan, load_plan, store_plan}
 use Rattle.qpu_shared.specs.declared.pending.Pending.{Pending}
-use Rattle.qpu_shared.specs.declared.starts.Starts.{Starts}
+use Rattle.qpu_shared.specs.declared.starts.Begun.{Begun}
 use Rattle.qpu_shared.specs.SharedState.{nothing_pending}
 use Rattle.qpu_shared.specs.Instruction.{or_pending, pending_after}
-use Rattle.qpu_shared.specs.Views.{IsFitting, IsStarted}
+use Rattle.qpu_shared.specs.Views.{IsFitting, HasFitting}
 
 -- an entry that is there doesn't depend on what stands for one that isn't
 pub entry_same : (pending : List Pending) (q : ℕ) (d : Pending) → q < length pending → slice_index_or pending q d ≡ slice_index_or pending q nothing_pending
 entry_same pending q d there = get_or_default pending q d nothing_pending there
 
 -- a transfer that starts, or the one that was pending, fits
-or_fits : (plan : Transfer → Plan) (words : ℕ) (starts pending : Option Transfer) → IsFitting plan words starts → IsFitting plan words pending
+or_fits : (plan : Transfer → TransferPlan) (words : ℕ) (starts pending : Option Transfer) → IsFitting plan words starts → IsFitting plan words pending
     → IsFitting plan words (or_pending starts pending)
 or_fits plan words None pending first second = second
 or_fits plan words (Some t) pending first second = first
 
 -- what is pending after an instruction fits, where what starts and what was pending does
-pub started_after : (f : Fields) (outs : Outs) (starts : Starts) (words : ℕ) (pending : Pending) → IsFitting load_plan words starts.load
-    → IsFitting store_plan words starts.store → IsStarted words pending → IsStarted words (pending_after f outs starts pending)
+pub started_after : (f : Fields) (outs : Outs) (starts : Begun) (words : ℕ) (pending : Pending) → IsFitting load_plan words starts.load
+    → IsFitting store_plan words starts.store → HasFitting words pending → HasFitting words (pending_after f outs starts pending)
 unfolding pending_after
 started_after f outs starts words pending load store before = record {
   load = or_fits load_plan words starts.load pending.load load before.load;
@@ -34,6 +34,6 @@ started_after f outs starts words pending load store before = record {
 }
 
 -- an entry is replaced by another that fits
-pub started_set : (words : ℕ) (pending : List Pending) (q : ℕ) (new : Pending) → IsStarted words new → All (IsStarted words) pending
-    → All (IsStarted words) (slice_set pending q new)
-started_set words pending q new fits before = All-set (IsStarted words) pending q new fits before
+pub started_set : (words : ℕ) (pending : List Pending) (q : ℕ) (new : Pending) → HasFitting words new → All (HasFitting words) pending
+    → All (HasFitting words) (slice_set pending q new)
+started_set words pending q new fits before = All-set (HasFitting words) pending q new fits before

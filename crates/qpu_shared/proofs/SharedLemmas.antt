@@ -8,17 +8,17 @@ use Rattle.qpu_word.proofs.LaneLemmas.{Filled}
 use Rattle.std.specs.Prelude.{All, replicate, slice_index, unwrap_or}
 use Rattle.qpu_shared.specs.declared.pending.Pending.{Pending}
 use Rattle.qpu_shared.specs.SharedState.{nothing_pending}
-use Rattle.qpu_shared.specs.Views.{IsStarted}
+use Rattle.qpu_shared.specs.Views.{HasFitting}
 
 -- nothing pending fits every memory
-pub nothing_started : (words : ℕ) → IsStarted words nothing_pending
+pub nothing_started : (words : ℕ) → HasFitting words nothing_pending
 nothing_started words = record { load = tt; store = tt }
 
-at_nothing : (words n k : ℕ) (d : Pending) → k < n → IsStarted words (get_or (replicate n nothing_pending) k d)
+at_nothing : (words n k : ℕ) (d : Pending) → k < n → HasFitting words (get_or (replicate n nothing_pending) k d)
 at_nothing words n k d low = rw (get_or-replicate n k nothing_pending d low) (nothing_started words)
 
 -- where nothing is pending, all that is fits
-pub clear_started : (words : ℕ) (pending : List Pending) → pending ≡ replicate 12 nothing_pending → All (IsStarted words) pending
+pub clear_started : (words : ℕ) (pending : List Pending) → pending ≡ replicate 12 nothing_pending → All (HasFitting words) pending
 clear_started words pending is k d low =
     let few : k < 12 = omega (arith, ap length is) in
     rw is (at_nothing words 12 k d few)

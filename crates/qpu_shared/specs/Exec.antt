@@ -1,26 +1,18 @@
 -- What a shared word finds, and what a call that does it answers. This project's own.
 use Rattle.std.specs.Prelude.{◌≡◌, ◌≢◌, ◌<◌, ◌==◌, ℕ, Bool, true, false, length, Option, Some, None, if◌then◌else◌}
 use Rattle.qpu_word.specs.declared.word.Fields.{Fields}
-use Rattle.qpu_word.specs.declared.code.TheConstants.{NOWHERE, WRITE_TMU1_S}
+use Rattle.qpu_word.specs.declared.code.TheConstants.{NOWHERE, WRITE_TMU1_S, LOOK_UPS}
 use Rattle.qpu_word.specs.Processor.{ProcessorState}
-use Rattle.qpu_word.specs.Instruction.{halted, look_address}
+use Rattle.qpu_word.specs.Instruction.{halted, look_address, look_unit_of}
 use Rattle.qpu_shared.specs.declared.did.Did.{Did}
 use Rattle.qpu_shared.specs.declared.did.Did.TheVariants.{Stepped, Awaits as ItAwaits, Faulted as ItFaulted}
 use Rattle.qpu_shared.specs.declared.pending.Pending.{Pending}
 use Rattle.qpu_shared.specs.SharedState.{SharedState}
 use Rattle.qpu_shared.specs.Instruction.{Outcome, Awaits, Faults, Done, looks_of}
 
--- how many look-ups a TMU unit may have outstanding
-abbrev pub look_ups : ℕ
-look_ups = 4
-
--- the TMU unit to which a word issues a look-up
-abbrev pub look_unit_of : Fields → ℕ
-look_unit_of f = if look_address f == WRITE_TMU1_S then 1 else 0
-
 -- a word that issues a look-up finds room for it
 abbrev pub HasRoom : Fields → Pending → Type 0
-HasRoom f pending = look_address f ≢ NOWHERE → length (looks_of pending (look_unit_of f)) < look_ups
+HasRoom f pending = look_address f ≢ NOWHERE → length (looks_of pending (look_unit_of f)) < LOOK_UPS
 
 -- a call answered and did what an instruction comes to, of a processor and the shared parts before
 -- it and after it: the whole instruction; or nothing, since it awaits; or its fault, and the halt

@@ -20,17 +20,17 @@ use Rattle.qpu_word.specs.Words.{fields_of, reads, reads_a, reads_b, writes, wri
 use Rattle.qpu_word.specs.Setups.{take_vector, put_vector}
 use Rattle.qpu_word.specs.Processor.{ProcessorState}
 use Rattle.qpu_word.specs.Instruction.{outs_of, after_setups, after_uniform_to, then_after, branch_fails, done, is_link_point}
-use Rattle.qpu_sync.specs.Sync.{is_holder}
+use Rattle.qpu_sync.specs.Sync.{acquired, released, raised, lowered}
 use Rattle.qpu_vpm.specs.Cells.{vector_cells}
 use Rattle.qpu_vpm.specs.Values.{vpm_values, with_cells}
 use Rattle.qpu_dma.specs.declared.transfer.Transfer.{Transfer}
-use Rattle.qpu_dma.specs.Transfers.{Plan, load_plan, store_plan, fits}
+use Rattle.qpu_dma.specs.Transfers.{TransferPlan, load_plan, store_plan, fits}
 use Rattle.qpu_tmu.specs.declared.look_up.LookUp.{LookUp}
 use Rattle.qpu_tmu.specs.Looks.{LookupsState, queue_of, oldest_words, with_look}
 use Rattle.qpu_shared.specs.declared.cause.Cause.{Cause}
 use Rattle.qpu_shared.specs.declared.cause.Cause.TheVariants.{LoadWait, StoreWait, LoadStart, StoreStart, TmuLoad, Mutex, Up, Down}
 use Rattle.qpu_shared.specs.declared.pending.Pending.{Pending}
-use Rattle.qpu_shared.specs.declared.starts.Starts.{Starts}
+use Rattle.qpu_shared.specs.declared.starts.Begun.{Begun}
 use Rattle.qpu_shared.specs.SharedState.{SharedState, nothing_pending}
 
 -- what one step of a processor comes to
@@ -136,21 +136,21 @@ after_vpm_write None book = Ok book
 after_vpm_write (Some values) book = put_vector book
 
 -- a transfer that starts: with which setup, or why not
-abbrev pub started : (Transfer → Plan) → List ℕ → Option ℕ → ℕ → ℕ → Result (Option Transfer) FaultKind
-started plan memory None step address = Err NoSetup
-started plan memory (Some setup) step address =
+abbrev pub transfer_started : (Transfer → TransferPlan) → List ℕ → Option ℕ → ℕ → ℕ → Result (Option Transfer) FaultKind
+transfer_started plan memory None step address = Err NoSetup
+transfer_started plan memory (Some setup) step address =
     let transfer : Transfer = record { setup = setup; step = step; address = address } in
     if fits (plan transfer) (length memory) then Ok (Some transfer) else Err TransferFault
 
 -- the load that starts, where there is one
 abbrev pub load_started : Option ℕ → Book → List ℕ → Result (Option Transfer) FaultKind
 load_started None book memory = Ok None
-load_started (Some address) book memory = started load_plan memory book.load book.load_pitch address
+load_started (Some address) book memory = transfer_started load_plan memory book.load book.load_pitch address
 
 -- the store that starts, where there is one
 abbrev pub store_started : Option ℕ → Book → List ℕ → Result (Option Transfer) FaultKind
 store_started None book memory = Ok None
-store_started (Some address) book memory = started store_plan memory book.store book.store_stride address
+store_started (Some address) book memory = transfer_started store_plan memory book.store book.store_stride address
 
 -- the indexes of the words at byte addresses, whose low two bits are without effect
 abbrev pub word_indexes : Lanes → Lanes
@@ -163,7 +163,7 @@ look_issued (Some addresses) memory =
     if list_all (λ a. nat_lt (a / 4) (length memory)) addresses.v then Ok (Some (word_indexes addresses)) else Err LookUpFault
 
 -- the writes with an effect outside the registers, in the order in which their faults are tried
-unfoldable pub after_writes : Outs → List ℕ → Book → Result Starts FaultKind
+unfoldable pub after_writes : Outs → List ℕ → Book → Result Begun FaultKind
 after_writes outs memory book =
     then_after (after_vpm_write outs.vpm book) (λ b.
     then_after (after_setups outs b) (λ c.
@@ -180,21 +180,24 @@ vpm_after None writes vpm = vpm
 vpm_after (Some values) None vpm = vpm
 vpm_after (Some values) (Some w) vpm = with_cells vpm (vector_cells w.setup w.done) values.v
 
--- the mutex after an acquire, where there is one
-abbrev pub acquired : Fields → ℕ → Option ℕ → Option ℕ
-acquired f q mutex = if reads f READ_MUTEX then Some q else mutex
+-- the holder of the mutex after a read that acquires it, where there is one
+abbrev pub after_acquire : Fields → ℕ → Option ℕ → Option ℕ
+after_acquire f q mutex = if reads f READ_MUTEX then acquired mutex q else mutex
 
--- the mutex after an acquire and then a release; a release by another than the holder does nothing
+-- the holder of the mutex after a write that releases it, where there is one
+abbrev pub after_release : Fields → ℕ → Option ℕ → Option ℕ
+after_release f q mutex = if writes f WRITE_MUTEX then released mutex q else mutex
+
+-- the holder of the mutex after an acquire and then a release
 unfoldable pub mutex_after : Fields → ℕ → Option ℕ → Option ℕ
-mutex_after f q mutex =
-    if writes f WRITE_MUTEX && is_holder (acquired f q mutex) q then None else acquired f q mutex
+mutex_after f q mutex = after_release f q (after_acquire f q mutex)
 
 -- the counts after a semaphore word
 unfoldable pub semaphores_after : Fields → List ℕ → List ℕ
 semaphores_after f counts =
     if not (is_semaphore f) then counts
-    else if is_down f then slice_set counts f.number (slice_index counts f.number - 1)
-    else slice_set counts f.number (slice_index counts f.number + 1)
+    else if is_down f then lowered counts f.number
+    else raised counts f.number
 
 -- the transfer that starts, or the one that was pending
 abbrev pub or_pending : Option Transfer → Option Transfer → Option Transfer
@@ -218,7 +221,7 @@ lookups_after f outs look lookups = record {
 }
 
 -- what a processor has pending after an instruction
-unfoldable pub pending_after : Fields → Outs → Starts → Pending → Pending
+unfoldable pub pending_after : Fields → Outs → Begun → Pending → Pending
 pending_after f outs starts pending = record {
   load = or_pending starts.load pending.load;
   store = or_pending starts.store pending.store;
@@ -226,7 +229,7 @@ pending_after f outs starts pending = record {
 }
 
 -- the shared parts after an instruction
-unfoldable pub shared_after : Fields → ProcessorState → Outs → Starts → SharedState → SharedState
+unfoldable pub shared_after : Fields → ProcessorState → Outs → Begun → SharedState → SharedState
 shared_after f p outs starts h = record {
   memory = h.memory;
   vpm = vpm_after outs.vpm p.book.writes h.vpm;

@@ -1,5 +1,6 @@
 -- The moves of pending transfers and look-ups. That each is a step of its own is this project's own.
 use Rattle.std.specs.Prelude.{ℕ, List, [], map, fold, Option, Some, None, option_map, slice_index, slice_set, nat_lt, if◌then◌else◌}
+use Rattle.qpu_word.specs.declared.code.TheConstants.{TMU_UNITS}
 use Rattle.qpu_vpm.specs.Cells.{cell}
 use Rattle.qpu_dma.specs.declared.Pair.{Pair}
 use Rattle.qpu_dma.specs.declared.transfer.Transfer.{Transfer}
@@ -45,13 +46,9 @@ after_store h q (Some t) =
 abbrev pub fetched : List ℕ → List LookUp → Option (List LookUp)
 fetched memory looks = option_map (λ at. with_words (map (slice_index memory) at) looks) (next_look looks)
 
--- the TMU units of a processor
-abbrev pub tmu_units : ℕ
-tmu_units = 2
-
--- the look-ups of one of them, the oldest first; another number has none
+-- the look-ups of a TMU unit, the oldest first; another number has none
 abbrev pub unit_looks : Pending → ℕ → List LookUp
-unit_looks pending unit = if nat_lt unit tmu_units then looks_of pending unit else []
+unit_looks pending unit = if nat_lt unit TMU_UNITS then looks_of pending unit else []
 
 -- the shared parts after a look-up move of a TMU unit, where it has one to make
 abbrev pub after_fetch : SharedState → ℕ → ℕ → Option (List LookUp) → Option SharedState

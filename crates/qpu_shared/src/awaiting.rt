@@ -2,18 +2,14 @@
 ghost use Rattle.std.specs.Prelude.{◌≡◌, ◌↔◌, ◌<◌, ◌==◌, ◌&&◌, is_some, is_none, length, not, IsTrue};
 ghost use Rattle.qpu_word.specs.declared.code.TheConstants.{SEMAPHORE_MOST};
 ghost use Rattle.qpu_word.specs.Words.{fields_of, is_semaphore, is_tmu_load, IsInProfile};
-ghost use Rattle.qpu_word.specs.Instruction.{is_look_address, look_address};
 ghost use Rattle.qpu_tmu.specs.Looks.{oldest_words};
-ghost use Rattle.qpu_shared.specs.Exec.{look_unit_of, HasRoom};
+ghost use Rattle.qpu_shared.specs.Exec.{HasRoom};
 ghost use Rattle.qpu_shared.specs.Instruction.{count_of, first_cause, is_down, looks_of, pending_of};
 
 use crate::cause::Cause;
 use crate::shared::Shared;
 use qpu_tmu::LOOK_UPS;
-use qpu_word::code::{
-    NOWHERE, READ_DMA_WAIT, READ_MUTEX, SEMAPHORE_MOST, WRITE_DMA_ADDRESS, WRITE_TMU0_S,
-    WRITE_TMU1_S,
-};
+use qpu_word::code::{NOWHERE, READ_DMA_WAIT, READ_MUTEX, SEMAPHORE_MOST, WRITE_DMA_ADDRESS};
 use qpu_word::{Fields, Word};
 
 /// Whether a semaphore word decrements.
@@ -21,39 +17,6 @@ pub(crate) fn is_down(f: &Fields) -> bool
     ensures { result ≡ is_down f.now }
 {
     f.down == 1
-}
-
-/// Whether an address issues a look-up.
-fn is_look(address: u32) -> bool
-    ensures { result ≡ is_look_address address }
-{
-    address == WRITE_TMU0_S || address == WRITE_TMU1_S
-}
-
-/// The address by which a word issues a look-up, `NOWHERE` for none.
-#[tactic(auto, unfolding(qpu_word::specs::Instruction::look_address))]
-fn look_address(f: &Fields) -> u32
-    ensures { result ≡ look_address f.now }
-{
-    if f.mul_writes() && is_look(f.waddr_mul) {
-        f.waddr_mul
-    } else if f.add_writes() && is_look(f.waddr_add) {
-        f.waddr_add
-    } else {
-        NOWHERE
-    }
-}
-
-/// The TMU unit to which a word issues a look-up, 0 where it issues none.
-fn look_unit(f: &Fields) -> u32
-    ensures unit { result ≡ look_unit_of f.now }
-    ensures below { result < 2 }
-{
-    if look_address(f) == WRITE_TMU1_S {
-        1
-    } else {
-        0
-    }
 }
 
 impl Shared {
@@ -149,7 +112,7 @@ impl Shared {
         ensures { IsTrue result ↔ HasRoom (fields_of word.0) (pending_of self.now q) }
     {
         let f = word.fields();
-        look_address(&f) == NOWHERE
-            || (self.looks_outstanding(q, look_unit(&f)) as usize) < LOOK_UPS
+        f.look_address() == NOWHERE
+            || (self.looks_outstanding(q, f.look_unit()) as usize) < LOOK_UPS
     }
 }

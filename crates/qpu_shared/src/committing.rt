@@ -1,23 +1,21 @@
 //! What an instruction leaves in the shared parts.
 ghost use Rattle.std.specs.Prelude.{◌≡◌, ◌≢◌, ◌<◌, ◌≤◌, ◌==◌, ◌&&◌, ◌||◌, not, false, None, if◌then◌else◌, length, is_some, is_none, slice_index, IsSome};
-ghost use Rattle.qpu_word.specs.declared.code.TheConstants.{READ_MUTEX, WRITE_MUTEX, SEMAPHORE_MOST};
-ghost use Rattle.qpu_sync.specs.Sync.{is_holder};
+ghost use Rattle.qpu_word.specs.declared.code.TheConstants.{READ_MUTEX, SEMAPHORE_MOST, LOOK_UPS};
 ghost use Rattle.qpu_word.specs.Processor.{ProcessorState};
-ghost use Rattle.qpu_word.specs.Words.{reads, writes, is_semaphore, is_tmu_load};
+ghost use Rattle.qpu_word.specs.Words.{reads, is_semaphore, is_tmu_load};
 ghost use Rattle.qpu_vpm.specs.Cells.{vector_cells};
 ghost use Rattle.qpu_vpm.specs.Values.{with_cells};
 ghost use Rattle.qpu_dma.specs.Transfers.{load_plan, store_plan};
 ghost use Rattle.qpu_tmu.specs.Looks.{queue_of, with_queue, oldest_words};
-ghost use Rattle.qpu_shared.specs.Exec.{look_ups};
 ghost use Rattle.qpu_shared.specs.Views.{IsFitting};
 ghost use Rattle.qpu_shared.specs.Free.{IsFree};
-ghost use Rattle.qpu_shared.specs.Instruction.{vpm_after, acquired, mutex_after, semaphores_after, is_down, count_of, after_take, after_issue, or_pending, looks_of, pending_after, pending_of, shared_after};
+ghost use Rattle.qpu_shared.specs.Instruction.{vpm_after, after_acquire, after_release, mutex_after, semaphores_after, is_down, count_of, after_take, after_issue, or_pending, looks_of, pending_after, pending_of, shared_after};
 ghost use Rattle.qpu_shared.specs.Moves.{with_pending};
 
 use crate::awaiting::is_down;
 use crate::pending::Pending;
 use crate::shared::Shared;
-use crate::starts::Starts;
+use crate::starts::Begun;
 use qpu_dma::Transfer;
 use qpu_vpm::VectorSetup;
 use qpu_word::code::{READ_MUTEX, WRITE_MUTEX};
@@ -48,7 +46,7 @@ impl Pending {
     /// Issues a look-up to TMU unit u, 0 or 1, where there is one; there is room for it.
     fn issue(&mut self, u: u32, look: &Option<Lanes>)
         requires unit { u < 2 }
-        requires room { IsSome look.now → length (queue_of self.old.looks u) < look_ups }
+        requires room { IsSome look.now → length (queue_of self.old.looks u) < LOOK_UPS }
         ensures { self.new ≡ record self.old { looks = with_queue self.old.looks u (after_issue look.now u u (queue_of self.old.looks u)) } }
     {
         if let Some(at) = look {
@@ -58,11 +56,11 @@ impl Pending {
 
     /// What is pending after an instruction: a start, a take, and then a new look-up.
     #[tactic(auto, unfolding(crate::specs::Instruction::pending_after))]
-    fn go_on(&mut self, f: &Fields, outs: &Outs, starts: &Starts)
+    fn go_on(&mut self, f: &Fields, outs: &Outs, starts: &Begun)
         requires unit { outs.now.look_unit < 2 }
         requires take0 { (is_tmu_load f.now 0 && is_none (oldest_words (queue_of self.old.looks 0))) ≡ false }
         requires take1 { (is_tmu_load f.now 1 && is_none (oldest_words (queue_of self.old.looks 1))) ≡ false }
-        requires room { IsSome starts.now.look → length (queue_of self.old.looks outs.now.look_unit) < look_ups }
+        requires room { IsSome starts.now.look → length (queue_of self.old.looks outs.now.look_unit) < LOOK_UPS }
         ensures { self.new ≡ pending_after f.now outs.now starts.now self.old }
     {
         self.load = or_pending(starts.load, self.load);
@@ -94,8 +92,7 @@ impl Shared {
     /// Acquires the mutex for processor q, which is free where the word reads it.
     fn acquire(&mut self, f: &Fields, q: u32)
         requires q { q < 12 }
-        requires free { (reads f.now READ_MUTEX && is_some self.old.mutex) ≡ false }
-        ensures { self.new ≡ record self.old { mutex = acquired f.now q self.old.mutex } }
+        ensures { self.new ≡ record self.old { mutex = after_acquire f.now q self.old.mutex } }
     {
         if f.reads(READ_MUTEX) {
             self.sync.acquire(q);
@@ -105,7 +102,7 @@ impl Shared {
     /// Releases the mutex where processor q holds it.
     fn release(&mut self, f: &Fields, q: u32)
         requires q { q < 12 }
-        ensures { self.new ≡ record self.old { mutex = (if writes f.now WRITE_MUTEX && is_holder self.old.mutex q then None else self.old.mutex) } }
+        ensures { self.new ≡ record self.old { mutex = after_release f.now q self.old.mutex } }
     {
         if f.writes(WRITE_MUTEX) {
             self.sync.release(q);
@@ -116,8 +113,6 @@ impl Shared {
     #[tactic(auto, unfolding(crate::specs::Instruction::semaphores_after))]
     fn put_semaphores(&mut self, f: &Fields)
         requires number { f.now.number < 16 }
-        requires up { (is_semaphore f.now && not (is_down f.now) && (count_of self.old f.now.number == SEMAPHORE_MOST)) ≡ false }
-        requires down { (is_semaphore f.now && is_down f.now && (count_of self.old f.now.number == 0)) ≡ false }
         ensures { self.new ≡ record self.old { semaphores = semaphores_after f.now self.old.semaphores } }
     {
         if !f.is_semaphore() {
@@ -131,12 +126,12 @@ impl Shared {
     }
 
     /// What processor q has pending after an instruction.
-    fn put_pending(&mut self, f: &Fields, q: u32, outs: &Outs, starts: &Starts)
+    fn put_pending(&mut self, f: &Fields, q: u32, outs: &Outs, starts: &Begun)
         requires q { q < 12 }
         requires unit { outs.now.look_unit < 2 }
         requires take0 { (is_tmu_load f.now 0 && is_none (oldest_words (looks_of (pending_of self.old q) 0))) ≡ false }
         requires take1 { (is_tmu_load f.now 1 && is_none (oldest_words (looks_of (pending_of self.old q) 1))) ≡ false }
-        requires room { IsSome starts.now.look → length (looks_of (pending_of self.old q) outs.now.look_unit) < look_ups }
+        requires room { IsSome starts.now.look → length (looks_of (pending_of self.old q) outs.now.look_unit) < LOOK_UPS }
         requires load { IsFitting load_plan (length self.old.memory) starts.now.load }
         requires store { IsFitting store_plan (length self.old.memory) starts.now.store }
         ensures { self.new ≡ with_pending self.old q (pending_after f.now outs.now starts.now (pending_of self.old q)) }
@@ -146,12 +141,12 @@ impl Shared {
 
     /// Leaves what an instruction of processor q does to the shared parts, by the book before it.
     #[tactic(auto, unfolding(crate::specs::Instruction::shared_after, crate::specs::Instruction::mutex_after))]
-    pub(crate) fn commit(&mut self, f: &Fields, q: u32, before: &Book, outs: &Outs, starts: &Starts)
+    pub(crate) fn commit(&mut self, f: &Fields, q: u32, before: &Book, outs: &Outs, starts: &Begun)
         requires q { q < 12 }
         requires number { f.now.number < 16 }
         requires unit { outs.now.look_unit < 2 }
         requires free { IsFree f.now q self.old }
-        requires room { IsSome starts.now.look → length (looks_of (pending_of self.old q) outs.now.look_unit) < look_ups }
+        requires room { IsSome starts.now.look → length (looks_of (pending_of self.old q) outs.now.look_unit) < LOOK_UPS }
         requires load { IsFitting load_plan (length self.old.memory) starts.now.load }
         requires store { IsFitting store_plan (length self.old.memory) starts.now.store }
         ensures { (p : ProcessorState) → p.q ≡ q → p.book ≡ before.now → self.new ≡ shared_after f.now p outs.now starts.now self.old }

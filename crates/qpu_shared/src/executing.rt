@@ -11,13 +11,13 @@ ghost use Rattle.qpu_shared.specs.Views.{IsFitting};
 
 use crate::did::Did;
 use crate::shared::Shared;
-use crate::starts::Starts;
+use crate::starts::Begun;
 use qpu_word::{Book, FaultKind, Fields, Outs, Port, Word};
 
 impl Shared {
     /// What a word starts and issues and the book that it leaves, or its first fault: of its reads,
     /// then of its writes.
-    fn due(&self, f: &Fields, outs: &Outs, book: Book) -> Result<Starts, FaultKind>
+    fn due(&self, f: &Fields, outs: &Outs, book: Book) -> Result<Begun, FaultKind>
         requires { IsSoundBook book }
         ensures value { result ≡ then_after (after_reads f.now self.now.memory book) (λ b. after_writes outs.now self.now.memory b) }
         ensures sound { IfOk result (λ starts. IsSoundBook starts.book) }

@@ -4,9 +4,10 @@ ghost use Rattle.qpu_shared.specs.SharedState.{nothing_pending};
 
 use qpu_dma::Transfer;
 use qpu_tmu::Lookups;
+use qpu_word::code;
 
 /// How many processors may have something pending.
-pub(crate) const PROCESSORS: usize = 12;
+pub(crate) const PROCESSORS: usize = code::PROCESSORS as usize;
 
 /// What a processor has pending.
 #[derive(Debug, Drop)]

@@ -9,11 +9,8 @@ ghost use Rattle.qpu_shared.specs.Instruction.{if_needed, next_vector, taken_wor
 
 use crate::shared::Shared;
 use qpu_vpm::VectorSetup;
-use qpu_word::code::{READ_DMA_BUSY, READ_UNIFORM, READ_VPM};
+use qpu_word::code::{READ_DMA_BUSY, READ_UNIFORM, READ_VPM, WORD_BYTES};
 use qpu_word::{Book, FaultKind, Fields, Ins, LANES, Lanes, Vectors};
-
-/// Bytes of a word of memory, and of a uniform.
-pub(crate) const WORD_BYTES: u32 = 4;
 
 /// Sixteen zeros.
 #[tactic(auto, unfolding(qpu_word::specs::Lanes::lanes))]

@@ -10,11 +10,9 @@ use qpu_mem::Memory;
 use qpu_sync::SyncUnit;
 use qpu_vpm::Vpm;
 use qpu_word::NoMemory;
+use qpu_word::code::TMU_UNITS;
 use std::alloc::Global;
 use std::marker::Model;
-
-/// TMU units of a processor.
-pub(crate) const UNITS: u32 = 2;
 
 /// What the processors share: memory, the VPM, the mutex, the semaphores, and what each of the
 /// twelve processors has pending. Contracts see it as a `SharedState`.
@@ -31,11 +29,11 @@ impl Model for Shared {
 
     ghost Value = { SharedState };
 
-    ghost use Rattle.qpu_shared.specs.Views.{state_of, IsSound};
+    ghost use Rattle.qpu_shared.specs.Views.{shared_state, IsSoundShared};
 
-    ghost view = { state_of };
+    ghost view = { shared_state };
 
-    ghost invariant = { IsSound };
+    ghost invariant = { IsSoundShared };
 }
 
 impl Shared {
@@ -99,7 +97,7 @@ impl Shared {
         ensures { result ≡ is_some (next_look (unit_looks (pending_of self.now q) u)) }
     {
         match self.pending.get(q as usize) {
-            Some(pending) => u < UNITS && pending.looks.next(u).is_some(),
+            Some(pending) => u < TMU_UNITS && pending.looks.next(u).is_some(),
             None => false,
         }
     }
@@ -110,7 +108,7 @@ impl Shared {
     {
         Ok(Shared {
             memory: self.memory.copy(alloc)?,
-            vpm: self.vpm,
+            vpm: self.vpm.copy(),
             sync: self.sync,
             pending: copies(&self.pending),
         })

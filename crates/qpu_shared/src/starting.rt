@@ -4,12 +4,12 @@ ghost use Rattle.std.specs.List.{list_all};
 ghost use Rattle.qpu_dma.specs.Transfers.{load_plan, store_plan};
 ghost use Rattle.qpu_word.specs.Books.{IsSoundBook};
 ghost use Rattle.qpu_shared.specs.Views.{IsFitting};
-ghost use Rattle.qpu_shared.specs.Instruction.{after_vpm_write, started, load_started, store_started, word_indexes, look_issued, after_writes};
+ghost use Rattle.qpu_shared.specs.Instruction.{after_vpm_write, transfer_started, load_started, store_started, word_indexes, look_issued, after_writes};
 
-use crate::reading::WORD_BYTES;
 use crate::shared::Shared;
-use crate::starts::Starts;
+use crate::starts::Begun;
 use qpu_dma::{LoadPlan, StorePlan, Transfer};
+use qpu_word::code::WORD_BYTES;
 use qpu_word::{Book, FaultKind, LANES, Lanes, Outs};
 
 /// The book after a VPM write, where there is one; `NoSetup` where no write setup was given.
@@ -41,7 +41,7 @@ impl Shared {
     /// A load with a setup, where one was given: `NoSetup` where none was, `Transfer` where it
     /// doesn't fit.
     fn start_load(&self, book: &Book, address: u32) -> Result<Option<Transfer>, FaultKind>
-        ensures value { result ≡ started load_plan self.now.memory book.now.load book.now.load_pitch address }
+        ensures value { result ≡ transfer_started load_plan self.now.memory book.now.load book.now.load_pitch address }
         ensures fits { IfOk result (λ transfer. IsFitting load_plan (length self.now.memory) transfer) }
     {
         let Some(setup) = book.load else {
@@ -71,7 +71,7 @@ impl Shared {
     /// A store with a setup, where one was given: `NoSetup` where none was, `Transfer` where it
     /// doesn't fit.
     fn start_store(&self, book: &Book, address: u32) -> Result<Option<Transfer>, FaultKind>
-        ensures value { result ≡ started store_plan self.now.memory book.now.store book.now.store_stride address }
+        ensures value { result ≡ transfer_started store_plan self.now.memory book.now.store book.now.store_stride address }
         ensures fits { IfOk result (λ transfer. IsFitting store_plan (length self.now.memory) transfer) }
     {
         let Some(setup) = book.store else {
@@ -129,7 +129,7 @@ impl Shared {
     /// What an instruction starts and issues, by what it sends out and the book after its reads;
     /// or the first fault of these, in the order in which they are tried.
     #[tactic(auto, unfolding(crate::specs::Instruction::after_writes))]
-    pub(crate) fn starts(&self, outs: &Outs, book: Book) -> Result<Starts, FaultKind>
+    pub(crate) fn starts(&self, outs: &Outs, book: Book) -> Result<Begun, FaultKind>
         requires { IsSoundBook book }
         ensures value { result ≡ after_writes outs.now self.now.memory book }
         ensures sound { IfOk result (λ starts. IsSoundBook starts.book) }
@@ -142,7 +142,7 @@ impl Shared {
         let load = self.load_started(outs.load_at, &book)?;
         let store = self.store_started(outs.store_at, &book)?;
         let look = self.look_issued(&outs.look)?;
-        Ok(Starts {
+        Ok(Begun {
             book: book.with_uniform_to(outs.uniform_to),
             load,
             store,

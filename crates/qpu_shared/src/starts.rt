@@ -3,7 +3,7 @@ use qpu_word::{Book, Lanes};
 
 /// What an instruction starts and issues, and the book that it leaves.
 #[derive(Clone, Copy, Debug)]
-pub struct Starts {
+pub struct Begun {
     /// The book after the instruction.
     pub book: Book,
     /// The load that starts.

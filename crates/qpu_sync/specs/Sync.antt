@@ -18,22 +18,19 @@ abbrev pub is_holder : Option ℕ → ℕ → Bool
 is_holder None q = false
 is_holder (Some holder) q = holder == q
 
--- the unit after an acquire, where nobody held the mutex
-abbrev pub acquired : SyncState → ℕ → SyncState
-acquired unit q = if is_some unit.holder then unit else record unit { holder = Some q }
+-- the holder after a processor's acquire, which does nothing where somebody holds the mutex
+abbrev pub acquired : Option ℕ → ℕ → Option ℕ
+acquired holder q = if is_some holder then holder else Some q
 
--- the unit after a release: by the holder, or by another, which does nothing
-abbrev pub released : SyncState → ℕ → SyncState
-released unit q = if is_holder unit.holder q then record unit { holder = None } else unit
+-- the holder after a processor's release, which does nothing where another holds the mutex
+abbrev pub released : Option ℕ → ℕ → Option ℕ
+released holder q = if is_holder holder q then None else holder
 
--- the unit after an increment, where the count isn't at its most
-abbrev pub raised : SyncState → ℕ → SyncState
-raised unit n =
-    if slice_index unit.counts n == SEMAPHORE_MOST then unit
-    else record unit { counts = slice_set unit.counts n (slice_index unit.counts n + 1) }
+-- the counts after an increment of one, which does nothing at its most
+abbrev pub raised : List ℕ → ℕ → List ℕ
+raised counts n =
+    if slice_index counts n == SEMAPHORE_MOST then counts else slice_set counts n (slice_index counts n + 1)
 
--- the unit after a decrement, where the count isn't 0
-abbrev pub lowered : SyncState → ℕ → SyncState
-lowered unit n =
-    if slice_index unit.counts n == 0 then unit
-    else record unit { counts = slice_set unit.counts n (slice_index unit.counts n - 1) }
+-- the counts after a decrement of one, which does nothing at 0
+abbrev pub lowered : List ℕ → ℕ → List ℕ
+lowered counts n = if slice_index counts n == 0 then counts else slice_set counts n (slice_index counts n - 1)

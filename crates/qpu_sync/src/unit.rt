@@ -44,7 +44,7 @@ impl SyncUnit {
     pub fn acquire(&mut self, q: u32) -> bool
         requires { q < 12 }
         ensures taken { IsTrue result ↔ IsNone self.old.holder }
-        ensures unit { self.new ≡ acquired self.old q }
+        ensures unit { self.new ≡ record self.old { holder = acquired self.old.holder q } }
     {
         if self.holder.is_some() {
             return false;
@@ -56,7 +56,7 @@ impl SyncUnit {
     /// Gives the mutex back where processor q, below 12, is the holder; else nothing changes.
     pub fn release(&mut self, q: u32)
         requires { q < 12 }
-        ensures { self.new ≡ released self.old q }
+        ensures { self.new ≡ record self.old { holder = released self.old.holder q } }
     {
         if self.holder == Some(q) {
             self.holder = None;
@@ -67,7 +67,7 @@ impl SyncUnit {
     pub fn up(&mut self, n: u32) -> bool
         requires { n < 16 }
         ensures raised { IsTrue result ↔ (slice_index self.old.counts n ≢ SEMAPHORE_MOST) }
-        ensures unit { self.new ≡ raised self.old n }
+        ensures unit { self.new ≡ record self.old { counts = raised self.old.counts n } }
     {
         let count = self.counts[n as usize];
         if count == SEMAPHORE_MOST {
@@ -81,7 +81,7 @@ impl SyncUnit {
     pub fn down(&mut self, n: u32) -> bool
         requires { n < 16 }
         ensures lowered { IsTrue result ↔ (slice_index self.old.counts n ≢ 0) }
-        ensures unit { self.new ≡ lowered self.old n }
+        ensures unit { self.new ≡ record self.old { counts = lowered self.old.counts n } }
     {
         let count = self.counts[n as usize];
         if count == 0 {

@@ -3,11 +3,11 @@ ghost use Rattle.qpu_tmu.specs.Looks.{is_waiting, oldest_words, next_look, with_
 
 use crate::look_up::LookUp;
 use arrayvec::ArrayVec;
-use qpu_word::Lanes;
+use qpu_word::{Lanes, code};
 use std::marker::Model;
 
 /// How many look-ups a unit may have outstanding, fetched or not.
-pub const LOOK_UPS: usize = 4;
+pub const LOOK_UPS: usize = code::LOOK_UPS as usize;
 
 /// The look-ups of one unit, seen as a list, the oldest first.
 #[derive(Debug, Drop)]

@@ -19,7 +19,7 @@ use Rattle.qpu_token.specs.Words.{is_word, number_value}
 use Rattle.qpu_token.specs.Places.{place_at}
 use Rattle.qpu_token.specs.Tokens.{dotted, Begins, NothingBegins, token_at, told, Cut, at_start, on, text_of, after_text, before_of, bound, fits, AllFit}
 use Rattle.qpu_token.specs.Faults.{InLine, IsBadByte, IsLineDone, IsTooLarge}
-use Rattle.qpu_token.specs.Reading.{place_behind, before_behind, after_piece, token_here, Moved, IsRead, turn_of, IsLarge, Turned, IsPastLarge}
+use Rattle.qpu_token.specs.Reading.{place_behind, before_behind, after_piece, token_here, Moved, IsRead, turn_of, IsLarge, TurnTaken, IsPastLarge}
 use Rattle.qpu_token.proofs.PlaceLemmas.{place_on}
 
 -- the text of a token
@@ -58,13 +58,13 @@ token_same text here n m kind place same = rw (place, same) refl
 retold : (text : List ℕ) (here next : Here) (us vs : List Token) → us ≡ vs → Moved text here next us → Moved text here next vs
 retold text here next us vs same m = subst (λ ts. Moved text here next ts) same m
 
-turned_number : (text : List ℕ) (here : Here) (n : ℕ) → here.place ≡ place_at text here.at → Begins (dotted text here.at) Number n (drop here.at text) → Turned text here (turn_of here Number (take n (drop here.at text)))
+turned_number : (text : List ℕ) (here : Here) (n : ℕ) → here.place ≡ place_at text here.at → Begins (dotted text here.at) Number n (drop here.at text) → TurnTaken text here (turn_of here Number (take n (drop here.at text)))
 turned_number text here n place begins = by_bound (nat_lt (number_value word) (bound here.before)) refl
   where
     word : List ℕ
     word = take n (drop here.at text)
 
-    by_bound : (b : Bool) → nat_lt (number_value word) (bound here.before) ≡ b → Turned text here (if b then Told (token_here here (kind.Number (number_value word)) (here.at + length word)) (after_piece here Number word) else TooLarge (after_piece here Number word))
+    by_bound : (b : Bool) → nat_lt (number_value word) (bound here.before) ≡ b → TurnTaken text here (if b then Told (token_here here (kind.Number (number_value word)) (here.at + length word)) (after_piece here Number word) else TooLarge (after_piece here Number word))
     by_bound true e =
         (retold text here _ _ _ (ap (λ t. t ∷ []) (token_same text here n _ (kind.Number (number_value word)) place (word_long text (dotted text here.at) here.at n Number begins))) (moved text here Number n place begins), e)
     by_bound false e = record {
@@ -74,7 +74,7 @@ turned_number text here n place begins = by_bound (nat_lt (number_value word) (b
       same_line = refl;
     }
 
-pub turned : (text : List ℕ) (here : Here) (shape : Shape) (n : ℕ) → here.place ≡ place_at text here.at → Begins (dotted text here.at) shape n (drop here.at text) → Turned text here (turn_of here shape (take n (drop here.at text)))
+pub turned : (text : List ℕ) (here : Here) (shape : Shape) (n : ℕ) → here.place ≡ place_at text here.at → Begins (dotted text here.at) shape n (drop here.at text) → TurnTaken text here (turn_of here shape (take n (drop here.at text)))
 turned text here Blank n place begins = moved text here Blank n place begins
 turned text here Comment n place begins = moved text here Comment n place begins
 turned text here Name n place begins =

@@ -90,11 +90,11 @@ pub record IsLarge (text : List ℕ) (here next : Here) : Type 0 where
   pub same_line : next.place.line ≡ here.place.line
 
 -- what reading on by one word came to
-abbrev pub Turned : List ℕ → Here → Turn → Type 0
-Turned text here Nothing = NothingBegins (dotted text here.at) (drop here.at text)
-Turned text here (Passed next) = Moved text here next []
-Turned text here (Told token next) = Moved text here next (token ∷ []) × (fits here.before token.kind ≡ true)
-Turned text here (TooLarge next) = IsLarge text here next
+abbrev pub TurnTaken : List ℕ → Here → Turn → Type 0
+TurnTaken text here Nothing = NothingBegins (dotted text here.at) (drop here.at text)
+TurnTaken text here (Passed next) = Moved text here next []
+TurnTaken text here (Told token next) = Moved text here next (token ∷ []) × (fits here.before token.kind ≡ true)
+TurnTaken text here (TooLarge next) = IsLarge text here next
 
 -- the line end of a last line that has no line feed
 abbrev pub end_here : Here → List Token

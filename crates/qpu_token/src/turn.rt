@@ -1,6 +1,6 @@
 ghost use Rattle.std.specs.Prelude.{◌≡◌, ◌+◌, ◌^◌, ◌<◌, ◌≤◌, length};
 ghost use Rattle.qpu_token.specs.Places.{place_at};
-ghost use Rattle.qpu_token.specs.Reading.{turn_of, Turned};
+ghost use Rattle.qpu_token.specs.Reading.{turn_of, TurnTaken};
 
 use crate::here::Here;
 use crate::number::number_of;
@@ -45,7 +45,7 @@ pub(crate) fn take_turn(text: &[u8], here: Here) -> Turn
     requires most { length text.now ≤ MOST_BYTES }
     requires inside { here.at < length text.now }
     requires place { here.place ≡ place_at text.now here.at }
-    ensures { Turned text.now here result }
+    ensures { TurnTaken text.now here result }
 {
     let Some(piece) = piece_at(text, here.at) else {
         return Turn::Nothing;

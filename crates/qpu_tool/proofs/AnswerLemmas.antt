@@ -8,20 +8,20 @@ use Rattle.qpu_tool.specs.declared.status.Status.{Status}
 use Rattle.qpu_tool.specs.declared.status.Status.TheVariants.{Done, Usage, AsmRefused, JobRefused, HazardRefused, ReadFault, WriteFault, NoMemory, Stuck, RanOut, Faulted, RecordRefused, TooLong, NotAscii}
 use Rattle.qpu_tool.specs.declared.words.Command.{Command}
 use Rattle.qpu_tool.specs.Commands.{IsCommand, IsNoCommand, limit_of}
-use Rattle.qpu_tool.specs.Answer.{Answer, Gives}
-use Rattle.qpu_tool.specs.Answers.{AnswerTo, Due, wrong_words, broken, past, whole, Judged, answered, no_memory, Outcome, given, out_of_memory, Answered, IsOfText, IsQuiet, NothingLeft, AnswersTo}
+use Rattle.qpu_tool.specs.Answer.{Answer, IsGiven}
+use Rattle.qpu_tool.specs.Answers.{AnswerTo, Due, wrong_words, broken, past, whole, Judged, answered, no_memory, CallOutcome, given, out_of_memory, Answered, IsOfText, NoCountRose, NothingLeft, AnswersTo}
 use Rattle.qpu_tool.proofs.CommandLemmas.{one_command}
 use Rattle.qpu_tool.proofs.StatusLemmas.{text_status}
 
 -- the answer to a whole input is the call's
 pub judged : (words : List (List ℕ)) (old new : Input) (held held' : Output) (command : Command) (text : List ℕ) (status : Status)
-    → IsCommand words command → ReadsToEnd old new (limit_of command) text → Judged command text held held' status → Outcome words old new held held' status
+    → IsCommand words command → ReadsToEnd old new (limit_of command) text → Judged command text held held' status → CallOutcome words old new held held' status
 judged words old new held held' command text status run read (answered answer due gives) = given answer (whole command text answer run read due) gives
 judged words old new held held' command text status run read (no_memory is same) =
     out_of_memory command run (record { bytes = text; at_most = read.at_most; taken = read.taken }) is same
 
 -- the two ways of an answer: its whole text, or a cut
-pub gave : (answer : Answer) (old new : Output) (status : Status) → Gives answer old new status
+pub gave : (answer : Answer) (old new : Output) (status : Status) → IsGiven answer old new status
     → ((status ≡ WriteFault) × Cut old new answer.text) ⊎ ((status ≡ answer.status) × (new ≡ appended old answer.text))
 gave answer old new Done g = inr g
 gave answer old new Usage g = inr g
@@ -47,7 +47,7 @@ same_output old new is more = let e : new.faults ≡ old.faults = ap (λ (o : Ou
 
 -- no fault of the sink is passed over
 pub sink_told : (words : List (List ℕ)) (old new : Input) (held held' : Output) (status : Status)
-    → Outcome words old new held held' status → held.faults < held'.faults → status ≡ WriteFault
+    → CallOutcome words old new held held' status → held.faults < held'.faults → status ≡ WriteFault
 sink_told words old new held held' status (given answer due gives) more =
     elim (gave answer held held' status gives) [ inl cut ↦ cut.0 | inr all ↦ absurd (no_more held held' answer.text all.1 more) ]
 sink_told words old new held held' status (out_of_memory command run read is same) more = absurd (same_output held held' same more)
@@ -72,7 +72,7 @@ pub data Came (words : List (List ℕ)) (old new : Input) (held held' : Output) 
   gave_all : (answer : Answer) → status ≡ answer.status → Cause words old new answer → held' ≡ appended held answer.text → Came words old new held held' status
 
 pub came : (words : List (List ℕ)) (old new : Input) (held held' : Output) (status : Status)
-    → Outcome words old new held held' status → Came words old new held held' status
+    → CallOutcome words old new held held' status → Came words old new held held' status
 came words old new held held' status (given answer due gives) =
     elim (gave answer held held' status gives) [
       | inl part ↦ cut answer part.0 (cause_of words old new answer due) part.1
@@ -245,7 +245,7 @@ answered_told words old new held held' status bytes command c of is left =
 
 due_by_cause : (words : List (List ℕ)) (old new : Input) (held held' : Output) (status : Status) (answer : Answer) (bytes : List ℕ) (command : Command)
     → Cause words old new answer → status ≡ answer.status → held' ≡ appended held answer.text → IsCommand words command → old.left ≡ Some bytes
-    → IsQuiet old.faults new.faults → AnswersTo command bytes held held' status
+    → NoCountRose old.faults new.faults → AnswersTo command bytes held held' status
 due_by_cause words old new held held' status answer bytes command (by_words due none same) is all run left quiet = absurd (none command run)
 due_by_cause words old new held held' status answer bytes command (by_fault other due run' read) is all run left quiet = absurd (quiet read.faults)
 due_by_cause words old new held held' status answer bytes command (by_length other due run' read) is all run left quiet =
@@ -260,7 +260,7 @@ due_by_cause words old new held held' status answer bytes command (by_text other
     (inr (inr (read.at_most, record { answer = answer; due = due; status_is = is; printed = all }))))
 
 pub due_for : (words : List (List ℕ)) (old new : Input) (held held' : Output) (status : Status) (bytes : List ℕ) (command : Command)
-    → Came words old new held held' status → IsCommand words command → old.left ≡ Some bytes → IsQuiet old.faults new.faults → IsQuiet held.faults held'.faults
+    → Came words old new held held' status → IsCommand words command → old.left ≡ Some bytes → NoCountRose old.faults new.faults → NoCountRose held.faults held'.faults
     → AnswersTo command bytes held held' status
 due_for words old new held held' status bytes command (cut answer is cause part) run left quiet_in quiet_out = absurd (quiet_out part.faults)
 due_for words old new held held' status bytes command (wanting other is run' read same) run left quiet_in quiet_out = inl is

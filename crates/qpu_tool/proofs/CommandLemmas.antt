@@ -3,7 +3,7 @@ use Rattle.std.proofs.Common.{◌≡◌, ℕ, List, [], Option, Some, None, refl
 use Rattle.std.specs.Prelude.{◌==◌, if◌then◌else◌}
 use Rattle.qpu_tool.specs.declared.words.Command.{Command}
 use Rattle.qpu_tool.specs.declared.words.Command.TheVariants.{Run, Assemble, Disassemble, Check, Replay}
-use Rattle.qpu_tool.specs.Commands.{words_of, IsCommand}
+use Rattle.qpu_tool.specs.Commands.{command_words, IsCommand}
 
 -- the command with a second letter
 with_letter : ℕ → Option Command
@@ -18,7 +18,7 @@ with_letter letter =
 named_by : List (List ℕ) → Option Command
 named_by words = with_letter (get_or (get_or words 0 []) 1 0)
 
-is_named : (command : Command) → named_by (words_of command) ≡ Some command
+is_named : (command : Command) → named_by (command_words command) ≡ Some command
 unfolding named_by with_letter
 is_named Run = refl
 is_named Assemble = refl

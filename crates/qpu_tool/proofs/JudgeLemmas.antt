@@ -24,7 +24,7 @@ use Rattle.qpu_tool.specs.declared.status.Status.{Status}
 use Rattle.qpu_tool.specs.Refusals.{is_high, name_at}
 use Rattle.qpu_tool.specs.Run.{FaithfulRun}
 use Rattle.qpu_tool.specs.declared.words.Command.TheVariants.{Run as RunIt}
-use Rattle.qpu_tool.specs.Answer.{Gives}
+use Rattle.qpu_tool.specs.Answer.{IsGiven}
 use Rattle.qpu_tool.specs.RunAnswers.{ran, run_answer}
 use Rattle.qpu_tool.specs.Answers.{low, answered, Judged}
 
@@ -68,7 +68,7 @@ fails_is fault.Memory due fails none = absurd (none refl)
 pub judged_run : (text : List ℕ) (plan : Plan) (machine : Started) (m : MachineState) (before after : List Run) (status : Status) (old new : Output)
     → position is_high text ≡ None → job_of text ≡ Ok plan → Opens plan machine → before ≡ []
     → Gained before after (λ s. SerialSchedule machine.state s m × IsRun machine.state s m) → IsFinal m
-    → Gives (run_answer text (steps_of after) m) old new status → Judged RunIt text old new status
+    → IsGiven (run_answer text (steps_of after) m) old new status → Judged RunIt text old new status
 judged_run text plan machine m before after status old new ascii job opens none gained stands gives =
     let same : gained.steps ≡ steps_of after = sym (gained.spells ∙ ap (λ (runs : List Run). steps_of runs ++ gained.steps) none) in
     let faithful : FaithfulRun plan (steps_of after) m = record {

@@ -27,6 +27,6 @@ abbrev pub not_ascii : ℕ → Answer
 not_ascii at = record { status = NotAscii; text = not_ascii_line at }
 
 -- how an answer was given: its whole text, or a front of it where a write failed
-abbrev pub Gives : Answer → Output → Output → Status → Type 0
-Gives answer old new WriteFault = Cut old new answer.text
-Gives answer old new status = (status ≡ answer.status) × (new ≡ appended old answer.text)
+abbrev pub IsGiven : Answer → Output → Output → Status → Type 0
+IsGiven answer old new WriteFault = Cut old new answer.text
+IsGiven answer old new status = (status ≡ answer.status) × (new ≡ appended old answer.text)

@@ -18,7 +18,7 @@ use Rattle.qpu_tool.specs.declared.words.Command.{Command}
 use Rattle.qpu_tool.specs.declared.words.Command.TheVariants.{Run, Assemble, Disassemble, Check, Replay}
 use Rattle.qpu_tool.specs.Commands.{IsCommand, IsNoCommand, limit_of}
 use Rattle.qpu_tool.specs.Refusals.{is_high, asm_line, program_line}
-use Rattle.qpu_tool.specs.Answer.{Answer, usage, read_fault, too_long, not_ascii, Gives}
+use Rattle.qpu_tool.specs.Answer.{Answer, usage, read_fault, too_long, not_ascii, IsGiven}
 use Rattle.qpu_tool.specs.RunAnswers.{RunAnswer, IsRefusedJob, IsRefusedProgram, TellsProgram}
 use Rattle.qpu_tool.specs.TextAnswers.{AsmAnswer, DisAnswer, CheckAnswer, words_text, accepted_line}
 use Rattle.qpu_record.specs.Reading.{Parts, record_of}
@@ -69,15 +69,15 @@ pub data Due (words : List (List ℕ)) (old new : Input) : Answer → Type 0 whe
 -- what the call for a whole input comes to: its answer was given, or memory was wanting and nothing
 -- was written
 pub data Judged (command : Command) (text : List ℕ) (old new : Output) (status : Status) : Type 0 where
-  answered : (answer : Answer) → AnswerTo command text answer → Gives answer old new status → Judged command text old new status
+  answered : (answer : Answer) → AnswerTo command text answer → IsGiven answer old new status → Judged command text old new status
   no_memory : status ≡ NoMemory → new ≡ old → Judged command text old new status
 
 -- what a call comes to: the answer that is due was given, or memory was wanting and nothing was
 -- written
-pub data Outcome (words : List (List ℕ)) (old new : Input) (held held' : Output) (status : Status) : Type 0 where
-  given : (answer : Answer) → Due words old new answer → Gives answer held held' status → Outcome words old new held held' status
+pub data CallOutcome (words : List (List ℕ)) (old new : Input) (held held' : Output) (status : Status) : Type 0 where
+  given : (answer : Answer) → Due words old new answer → IsGiven answer held held' status → CallOutcome words old new held held' status
   out_of_memory : (command : Command) → IsCommand words command → ReadsPart old new (limit_of command) → status ≡ NoMemory → held' ≡ held
-      → Outcome words old new held held' status
+      → CallOutcome words old new held held' status
 
 -- an answer to a text was given whole
 pub record Answered (command : Command) (text : List ℕ) (old new : Output) (status : Status) : Type 0 where
@@ -179,8 +179,8 @@ abbrev pub Accepts : List ℕ → Output → Output → Status → Type 0
 Accepts words old new status = (status ≡ NoMemory) ⊎ ((status ≡ Done) × (new ≡ appended old (accepted_line (length words))))
 
 -- no fault was counted: neither is a count greater after the call, nor does it stand at its last value
-abbrev pub IsQuiet : ℕ → ℕ → Type 0
-IsQuiet old new = Rose old new → ⊥
+abbrev pub NoCountRose : ℕ → ℕ → Type 0
+NoCountRose old new = Rose old new → ⊥
 
 -- nothing of a source is left, as far as it tells
 abbrev pub NothingLeft : Input → Type 0

@@ -5,12 +5,12 @@ use Rattle.qpu_tool.specs.declared.words.Command.TheVariants.{Run, Assemble, Dis
 use Rattle.qpu_tool.specs.declared.command.TheConstants.{MOST_INPUT, MOST_RECORD}
 
 -- the words of a command
-abbrev pub words_of : Command → List (List ℕ)
-words_of Run = codes "run" ∷ codes "-w" ∷ codes "0" ∷ []
-words_of Assemble = codes "asm" ∷ []
-words_of Disassemble = codes "dis" ∷ []
-words_of Check = codes "check" ∷ []
-words_of Replay = codes "replay" ∷ []
+abbrev pub command_words : Command → List (List ℕ)
+command_words Run = codes "run" ∷ codes "-w" ∷ codes "0" ∷ []
+command_words Assemble = codes "asm" ∷ []
+command_words Disassemble = codes "dis" ∷ []
+command_words Check = codes "check" ∷ []
+command_words Replay = codes "replay" ∷ []
 
 -- bytes of the longest input
 abbrev pub limit_of : Command → ℕ
@@ -22,11 +22,11 @@ limit_of Replay = MOST_RECORD
 
 -- the words are those of a command
 abbrev pub IsCommand : List (List ℕ) → Command → Type 0
-IsCommand words command = words ≡ words_of command
+IsCommand words command = words ≡ command_words command
 
 -- the words are those of a run without workers
-abbrev pub IsRun : List (List ℕ) → Type 0
-IsRun words = IsCommand words Run
+abbrev pub IsRunCommand : List (List ℕ) → Type 0
+IsRunCommand words = IsCommand words Run
 
 -- the words are those of no command
 abbrev pub IsNoCommand : List (List ℕ) → Type 0

@@ -5,7 +5,7 @@ ghost use Rattle.qpu_tool.specs.declared.words.Command.TheVariants.{Assemble};
 ghost use Rattle.qpu_tool.specs.declared.command.TheConstants.{MOST_INPUT};
 ghost use Rattle.qpu_tool.specs.Refusals.{is_high};
 ghost use Rattle.qpu_tool.specs.TextAnswers.{word_line, words_text, words_answer};
-ghost use Rattle.qpu_tool.specs.Answer.{Gives};
+ghost use Rattle.qpu_tool.specs.Answer.{IsGiven};
 ghost use Rattle.qpu_tool.specs.Answers.{Judged};
 
 use crate::misspelling::{is_want, say_asm_fault};
@@ -46,7 +46,7 @@ fn put_words<K: Sink>(words: &[Word], sink: &mut K) -> Result<(), SinkFailed>
 
 /// Says which words a text has.
 fn say_words<K: Sink>(words: &[Word], sink: &mut K) -> Status
-    ensures { Gives (words_answer (map (λ word. word.0) words.now)) (K.shown sink.old) (K.shown sink.new) result }
+    ensures { IsGiven (words_answer (map (λ word. word.0) words.now)) (K.shown sink.old) (K.shown sink.new) result }
 {
     match put_words(words, sink) {
         Ok(()) => Status::Done,

@@ -9,7 +9,7 @@ ghost use Rattle.qpu_tool.specs.declared.words.Command.TheVariants.{Check};
 ghost use Rattle.qpu_tool.specs.declared.command.TheConstants.{MOST_INPUT};
 ghost use Rattle.qpu_tool.specs.Refusals.{is_high};
 ghost use Rattle.qpu_tool.specs.TextAnswers.{accepted_answer};
-ghost use Rattle.qpu_tool.specs.Answer.{Gives};
+ghost use Rattle.qpu_tool.specs.Answer.{IsGiven};
 ghost use Rattle.qpu_tool.specs.Answers.{Judged};
 
 use crate::misspelling::{is_want, say_asm_fault};
@@ -23,7 +23,7 @@ use std::alloc::Global;
 
 /// Says that a program is accepted, and how many words it has.
 fn say_accepted<K: Sink>(words: &[Word], sink: &mut K) -> Status
-    ensures { Gives (accepted_answer (map (λ word. word.0) words.now)) (K.shown sink.old) (K.shown sink.new) result }
+    ensures { IsGiven (accepted_answer (map (λ word. word.0) words.now)) (K.shown sink.old) (K.shown sink.new) result }
 {
     let pieces = [
         Piece::Text(b"accepted "),
@@ -48,7 +48,7 @@ fn is_want_of(fault: &CheckFault) -> bool
 }
 
 /// Judges words over all paths, and keeps nothing of them.
-#[tactic(auto, unfolding(qpu_flow::specs::Code::numbers_of))]
+#[tactic(auto, unfolding(qpu_word::specs::Words::numbers_of))]
 fn judged(alloc: Global, words: &[Word]) -> Result<(), CheckFault>
     requires { length words.now ≤ MOST_WORDS }
     ensures inside { OnOk result (AllInProfile (map (λ word. word.0) words.now)) }

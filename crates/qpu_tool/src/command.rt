@@ -14,9 +14,9 @@ ghost use Rattle.qpu_tool.specs.declared.words.Command.{Command};
 ghost use Rattle.qpu_tool.specs.declared.words.Command.TheVariants.{Run, Assemble, Disassemble, Check, Replay};
 ghost use Rattle.qpu_tool.specs.Commands.{IsCommand, IsNoCommand, limit_of};
 ghost use Rattle.qpu_tool.specs.Refusals.{is_high};
-ghost use Rattle.qpu_tool.specs.Answer.{Answer, Gives, usage, read_fault, too_long};
+ghost use Rattle.qpu_tool.specs.Answer.{Answer, IsGiven, usage, read_fault, too_long};
 ghost use Rattle.qpu_tool.specs.RunAnswers.{IsOfRun, PrintsRun, IsAccepted, RunsIt, CanRun};
-ghost use Rattle.qpu_tool.specs.Answers.{AnswerTo, IsOfText, IsQuiet, NothingLeft, Answered, AnswersTo, ComesTo, RefusesText, RefusesJob, RefusesWords, RefusesRecord, PrintsWords, Assembles, PrintsLines, Disassembles, PrintsAccepted, Accepts, Outcome};
+ghost use Rattle.qpu_tool.specs.Answers.{AnswerTo, IsOfText, NoCountRose, NothingLeft, Answered, AnswersTo, ComesTo, RefusesText, RefusesJob, RefusesWords, RefusesRecord, PrintsWords, Assembles, PrintsLines, Disassembles, PrintsAccepted, Accepts, CallOutcome};
 
 use crate::judging::judge;
 use crate::status::Status;
@@ -32,7 +32,7 @@ pub const MOST_RECORD: u64 = 268_435_456;
 
 /// Says that the words are no command.
 fn say_usage<K: Sink>(sink: &mut K) -> Status
-    ensures { Gives usage (K.shown sink.old) (K.shown sink.new) result }
+    ensures { IsGiven usage (K.shown sink.old) (K.shown sink.new) result }
 {
     match write_all_of(sink, b"usage\n") {
         Ok(()) => Status::Usage,
@@ -42,7 +42,7 @@ fn say_usage<K: Sink>(sink: &mut K) -> Status
 
 /// Says that reading failed.
 fn say_read_fault<K: Sink>(sink: &mut K) -> Status
-    ensures { Gives read_fault (K.shown sink.old) (K.shown sink.new) result }
+    ensures { IsGiven read_fault (K.shown sink.old) (K.shown sink.new) result }
 {
     match write_all_of(sink, b"read fault\n") {
         Ok(()) => Status::ReadFault,
@@ -52,7 +52,7 @@ fn say_read_fault<K: Sink>(sink: &mut K) -> Status
 
 /// Says that the input is too long.
 fn say_too_long<K: Sink>(sink: &mut K) -> Status
-    ensures { Gives too_long (K.shown sink.old) (K.shown sink.new) result }
+    ensures { IsGiven too_long (K.shown sink.old) (K.shown sink.new) result }
 {
     match write_all_of(sink, b"too long\n") {
         Ok(()) => Status::TooLong,
@@ -67,7 +67,7 @@ fn carried_out<S: Source, K: Sink>(
     source: &mut S,
     sink: &mut K,
 ) -> Status
-    ensures { Outcome (map string_bytes words.now) (S.shown source.old) (S.shown source.new) (K.shown sink.old) (K.shown sink.new) result }
+    ensures { CallOutcome (map string_bytes words.now) (S.shown source.old) (S.shown source.new) (K.shown sink.old) (K.shown sink.new) result }
 {
     match command_of(words) {
         None => say_usage(sink),
@@ -94,7 +94,7 @@ pub fn plain<S: Source, K: Sink>(
     source: &mut S,
     sink: &mut K,
 ) -> Status
-    ensures outcome { Outcome (map string_bytes words.now) (S.shown source.old) (S.shown source.new) (K.shown sink.old) (K.shown sink.new) result }
+    ensures outcome { CallOutcome (map string_bytes words.now) (S.shown source.old) (S.shown source.new) (K.shown sink.old) (K.shown sink.new) result }
 
     // The words: usage exactly where they are no command, and then nothing is read.
     ensures usage { result ≡ Status.Usage → IsNoCommand (map string_bytes words.now) × (S.shown source.new ≡ S.shown source.old) }
@@ -118,11 +118,11 @@ pub fn plain<S: Source, K: Sink>(
     ensures answered { (bytes : List ℕ) (command : Command) → IsCommand (map string_bytes words.now) command → (S.shown source.old).left ≡ Some bytes
         → IsOfText result → Answered command bytes (K.shown sink.old) (K.shown sink.new) result }
     ensures complete { (bytes : List ℕ) (command : Command) → IsCommand (map string_bytes words.now) command → (S.shown source.old).left ≡ Some bytes
-        → IsQuiet (S.shown source.old).faults (S.shown source.new).faults → IsQuiet (K.shown sink.old).faults (K.shown sink.new).faults
+        → NoCountRose (S.shown source.old).faults (S.shown source.new).faults → NoCountRose (K.shown sink.old).faults (K.shown sink.new).faults
         → AnswersTo command bytes (K.shown sink.old) (K.shown sink.new) result }
     ensures alone { (bytes : List ℕ) (command : Command) (answer : Answer) → IsCommand (map string_bytes words.now) command → (S.shown source.old).left ≡ Some bytes
         → length bytes ≤ limit_of command → AnswerTo command bytes answer
-        → IsQuiet (S.shown source.old).faults (S.shown source.new).faults → IsQuiet (K.shown sink.old).faults (K.shown sink.new).faults
+        → NoCountRose (S.shown source.old).faults (S.shown source.new).faults → NoCountRose (K.shown sink.old).faults (K.shown sink.new).faults
         → ComesTo answer (K.shown sink.old) (K.shown sink.new) result }
 
     // Refusals of what is read: a line or a program of a job, the words of a program, a text.
@@ -140,7 +140,7 @@ pub fn plain<S: Source, K: Sink>(
     ensures ran { (bytes : List ℕ) → IsCommand (map string_bytes words.now) Run → (S.shown source.old).left ≡ Some bytes
         → IsOfRun result → PrintsRun bytes (K.shown sink.old) (K.shown sink.new) result }
     ensures accepted { (bytes : List ℕ) → IsCommand (map string_bytes words.now) Run → (S.shown source.old).left ≡ Some bytes → length bytes ≤ MOST_INPUT → IsAccepted bytes
-        → IsQuiet (S.shown source.old).faults (S.shown source.new).faults → IsQuiet (K.shown sink.old).faults (K.shown sink.new).faults
+        → NoCountRose (S.shown source.old).faults (S.shown source.new).faults → NoCountRose (K.shown sink.old).faults (K.shown sink.new).faults
         → RunsIt bytes (K.shown sink.old) (K.shown sink.new) result }
 
     // Replays: the report is that of the machine after exactly the steps of the record; and what a run
@@ -150,7 +150,7 @@ pub fn plain<S: Source, K: Sink>(
     ensures replays { (job rest : List ℕ) (s : List Actor) (m : MachineState) → IsCommand (map string_bytes words.now) Replay
         → (S.shown source.old).left ≡ Some (record_text job s ++ rest) → length (record_text job s ++ rest) ≤ MOST_RECORD
         → CanRun job s m → (rest ≡ []) ⊎ (rest ≡ report_text m)
-        → IsQuiet (S.shown source.old).faults (S.shown source.new).faults → IsQuiet (K.shown sink.old).faults (K.shown sink.new).faults
+        → NoCountRose (S.shown source.old).faults (S.shown source.new).faults → NoCountRose (K.shown sink.old).faults (K.shown sink.new).faults
         → PrintsReportOf m (K.shown sink.old) (K.shown sink.new) result }
 
     // Assembly text: the words that are due are printed.
@@ -158,7 +158,7 @@ pub fn plain<S: Source, K: Sink>(
         → result ≡ Status.Done → PrintsWords bytes (K.shown sink.old) (K.shown sink.new) }
     ensures assembles { (bytes codes : List ℕ) → IsCommand (map string_bytes words.now) Assemble → (S.shown source.old).left ≡ Some bytes
         → length bytes ≤ MOST_INPUT → position is_high bytes ≡ None → IsAssembly bytes (Ok codes)
-        → IsQuiet (S.shown source.old).faults (S.shown source.new).faults → IsQuiet (K.shown sink.old).faults (K.shown sink.new).faults
+        → NoCountRose (S.shown source.old).faults (S.shown source.new).faults → NoCountRose (K.shown sink.old).faults (K.shown sink.new).faults
         → Assembles codes (K.shown sink.old) (K.shown sink.new) result }
 
     // Words: their lines are printed.
@@ -166,7 +166,7 @@ pub fn plain<S: Source, K: Sink>(
         → result ≡ Status.Done → PrintsLines bytes (K.shown sink.old) (K.shown sink.new) }
     ensures disassembles { (bytes codes : List ℕ) → IsCommand (map string_bytes words.now) Disassemble → (S.shown source.old).left ≡ Some bytes
         → length bytes ≤ MOST_INPUT → position is_high bytes ≡ None → hex_words bytes ≡ Ok codes
-        → IsQuiet (S.shown source.old).faults (S.shown source.new).faults → IsQuiet (K.shown sink.old).faults (K.shown sink.new).faults
+        → NoCountRose (S.shown source.old).faults (S.shown source.new).faults → NoCountRose (K.shown sink.old).faults (K.shown sink.new).faults
         → Disassembles codes (K.shown sink.old) (K.shown sink.new) result }
 
     // The checker: words are accepted exactly where they are in the profile and break no rule.
@@ -174,7 +174,7 @@ pub fn plain<S: Source, K: Sink>(
         → result ≡ Status.Done → PrintsAccepted bytes (K.shown sink.old) (K.shown sink.new) }
     ensures checks { (bytes codes : List ℕ) → IsCommand (map string_bytes words.now) Check → (S.shown source.old).left ≡ Some bytes
         → length bytes ≤ MOST_INPUT → position is_high bytes ≡ None → IsAssembly bytes (Ok codes) → AllInProfile codes → NoneRefusable codes
-        → IsQuiet (S.shown source.old).faults (S.shown source.new).faults → IsQuiet (K.shown sink.old).faults (K.shown sink.new).faults
+        → NoCountRose (S.shown source.old).faults (S.shown source.new).faults → NoCountRose (K.shown sink.old).faults (K.shown sink.new).faults
         → Accepts codes (K.shown sink.old) (K.shown sink.new) result }
 {
     carried_out(alloc, words, source, sink)

@@ -4,7 +4,7 @@ ghost use Rattle.qpu_tool.specs.declared.words.Command.TheVariants.{Disassemble}
 ghost use Rattle.qpu_tool.specs.declared.command.TheConstants.{MOST_INPUT};
 ghost use Rattle.qpu_tool.specs.Refusals.{is_high};
 ghost use Rattle.qpu_tool.specs.TextAnswers.{lines_answer};
-ghost use Rattle.qpu_tool.specs.Answer.{Gives};
+ghost use Rattle.qpu_tool.specs.Answer.{IsGiven};
 ghost use Rattle.qpu_tool.specs.Answers.{Judged};
 
 use crate::misspelling::{is_want, say_asm_fault};
@@ -17,7 +17,7 @@ use std::alloc::Global;
 
 /// Says which lines words have.
 fn say_lines<K: Sink>(words: &[Word], sink: &mut K) -> Status
-    ensures { Gives (lines_answer (map (λ word. word.0) words.now)) (K.shown sink.old) (K.shown sink.new) result }
+    ensures { IsGiven (lines_answer (map (λ word. word.0) words.now)) (K.shown sink.old) (K.shown sink.new) result }
 {
     match disassemble(words, sink) {
         Ok(()) => Status::Done,

@@ -4,7 +4,7 @@ ghost use Rattle.qpu_io.specs.Output.{Prints};
 ghost use Rattle.qpu_token.specs.declared.fault.AsmKind.TheVariants.{Memory};
 ghost use Rattle.qpu_tool.specs.Refusals.{asm_kind_name, asm_line};
 ghost use Rattle.qpu_tool.specs.TextAnswers.{asm_refusal};
-ghost use Rattle.qpu_tool.specs.Answer.{Gives};
+ghost use Rattle.qpu_tool.specs.Answer.{IsGiven};
 
 use crate::status::Status;
 use qpu_io::{Piece, Sink, SinkFailed, put_all};
@@ -51,7 +51,7 @@ pub(crate) fn put_asm_line<K: Sink>(fault: AsmFault, sink: &mut K) -> Result<(),
 
 /// Says why a text is refused.
 pub(crate) fn say_asm_fault<K: Sink>(fault: AsmFault, sink: &mut K) -> Status
-    ensures { Gives (asm_refusal fault) (K.shown sink.old) (K.shown sink.new) result }
+    ensures { IsGiven (asm_refusal fault) (K.shown sink.old) (K.shown sink.new) result }
 {
     match put_asm_line(fault, sink) {
         Ok(()) => Status::AsmRefused,

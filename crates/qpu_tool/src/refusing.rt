@@ -3,7 +3,7 @@ ghost use Rattle.std.specs.Prelude.{◌≡◌, ◌≢◌, map};
 ghost use Rattle.qpu_io.specs.Output.{Prints};
 ghost use Rattle.qpu_job.specs.Plan.{Program, programs_of};
 ghost use Rattle.qpu_tool.specs.Refusals.{word_fault_name, job_line, refused_line, fault_line, fault_status, name_at, not_ascii_line};
-ghost use Rattle.qpu_tool.specs.Answer.{Gives, not_ascii};
+ghost use Rattle.qpu_tool.specs.Answer.{IsGiven, not_ascii};
 ghost use Rattle.qpu_tool.specs.TextAnswers.{check_refusal};
 ghost use Rattle.qpu_tool.specs.RunAnswers.{refusal};
 
@@ -16,7 +16,7 @@ use qpu_word::WordFault;
 
 /// Says that a byte is no ASCII.
 pub(crate) fn say_not_ascii<K: Sink>(at: usize, sink: &mut K) -> Status
-    ensures { Gives (not_ascii at) (K.shown sink.old) (K.shown sink.new) result }
+    ensures { IsGiven (not_ascii at) (K.shown sink.old) (K.shown sink.new) result }
 {
     let pieces = [
         Piece::Text(b"not ascii at "),
@@ -131,7 +131,7 @@ fn put_refused_line<'a, K: Sink>(
 
 /// Says what the checker refuses in a program without a name.
 pub(crate) fn say_hazard<K: Sink>(fault: CheckFault, sink: &mut K) -> Status
-    ensures { Gives (check_refusal fault) (K.shown sink.old) (K.shown sink.new) result }
+    ensures { IsGiven (check_refusal fault) (K.shown sink.old) (K.shown sink.new) result }
 {
     match put_refused_line(b"", b"", fault, sink) {
         Ok(()) => Status::HazardRefused,
@@ -190,7 +190,7 @@ fn fault_status(fault: JobFault) -> Status
 /// Says why a job with these programs is refused; want of memory is no refusal.
 pub(crate) fn say_fault<K: Sink>(programs: &[ProgramText], fault: JobFault, sink: &mut K) -> Status
     requires { fault ≢ JobFault.Memory }
-    ensures { Gives (refusal (map (λ (p : Program). p.name) (programs_of programs.now)) fault) (K.shown sink.old) (K.shown sink.new) result }
+    ensures { IsGiven (refusal (map (λ (p : Program). p.name) (programs_of programs.now)) fault) (K.shown sink.old) (K.shown sink.new) result }
 {
     match put_fault_line(programs, fault, sink) {
         Ok(()) => fault_status(fault),

@@ -4,7 +4,7 @@ ghost use Rattle.qpu_io.specs.Output.{Prints};
 ghost use Rattle.qpu_io.specs.Text.{joined};
 ghost use Rattle.qpu_tool.specs.Refusals.{record_line, replay_line};
 ghost use Rattle.qpu_tool.specs.RecordAnswers.{record_refusal, replay_refusal, report_refusal};
-ghost use Rattle.qpu_tool.specs.Answer.{Gives};
+ghost use Rattle.qpu_tool.specs.Answer.{IsGiven};
 
 use crate::status::Status;
 use qpu_io::{Piece, Sink, SinkFailed, put_all, write_all_of};
@@ -38,7 +38,7 @@ fn put_numbered<K: Sink>(words: &[u8], number: u32, sink: &mut K) -> Result<(), 
 
 /// Says why a text is no record.
 pub(crate) fn say_record_fault<K: Sink>(fault: RecordFault, sink: &mut K) -> Status
-    ensures { Gives (record_refusal fault) (K.shown sink.old) (K.shown sink.new) result }
+    ensures { IsGiven (record_refusal fault) (K.shown sink.old) (K.shown sink.new) result }
 {
     match put_record_line(fault, sink) {
         Ok(()) => Status::RecordRefused,
@@ -72,7 +72,7 @@ fn put_replay_line<K: Sink>(fault: ReplayFault, sink: &mut K) -> Result<(), Sink
 
 /// Says why a schedule isn't a complete permitted one.
 pub(crate) fn say_replay_fault<K: Sink>(fault: ReplayFault, sink: &mut K) -> Status
-    ensures { Gives (replay_refusal fault) (K.shown sink.old) (K.shown sink.new) result }
+    ensures { IsGiven (replay_refusal fault) (K.shown sink.old) (K.shown sink.new) result }
 {
     match put_replay_line(fault, sink) {
         Ok(()) => Status::RecordRefused,
@@ -82,7 +82,7 @@ pub(crate) fn say_replay_fault<K: Sink>(fault: ReplayFault, sink: &mut K) -> Sta
 
 /// Says in which line a report isn't the machine's.
 pub(crate) fn say_other_report<K: Sink>(line: u64, sink: &mut K) -> Status
-    ensures { Gives (report_refusal line) (K.shown sink.old) (K.shown sink.new) result }
+    ensures { IsGiven (report_refusal line) (K.shown sink.old) (K.shown sink.new) result }
 {
     let pieces = [
         Piece::Text(b"refused record report at line "),

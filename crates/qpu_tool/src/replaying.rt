@@ -13,7 +13,7 @@ ghost use Rattle.qpu_tool.specs.declared.words.Command.TheVariants.{Replay};
 ghost use Rattle.qpu_tool.specs.declared.command.TheConstants.{MOST_RECORD};
 ghost use Rattle.qpu_tool.specs.Refusals.{is_high};
 ghost use Rattle.qpu_tool.specs.RecordAnswers.{replay_answer, differing_line, OpensRecord};
-ghost use Rattle.qpu_tool.specs.Answer.{Gives};
+ghost use Rattle.qpu_tool.specs.Answer.{IsGiven};
 ghost use Rattle.qpu_tool.specs.Answers.{Judged};
 
 use crate::comparing::differing_line;
@@ -47,7 +47,7 @@ fn report_of(alloc: Global, machine: &Machine) -> Result<HoldingSink, NoMemory>
 fn say_report<K: Sink>(report: &[u8], machine: &Machine, ending: Ending, sink: &mut K) -> Status
     requires is { report.now ≡ report_text machine.now.state }
     requires ending { ending ≡ ending_of machine.now.state }
-    ensures { Gives (replay_answer machine.now.state) (K.shown sink.old) (K.shown sink.new) result }
+    ensures { IsGiven (replay_answer machine.now.state) (K.shown sink.old) (K.shown sink.new) result }
 {
     match write_all_of(sink, report) {
         Ok(()) => status_for(ending),

@@ -12,7 +12,7 @@ ghost use Rattle.qpu_tool.specs.Run.{run_text};
 ghost use Rattle.qpu_tool.specs.Statuses.{status_for};
 ghost use Rattle.qpu_tool.specs.declared.words.Command.TheVariants.{Run};
 ghost use Rattle.qpu_tool.specs.RunAnswers.{run_answer};
-ghost use Rattle.qpu_tool.specs.Answer.{Gives};
+ghost use Rattle.qpu_tool.specs.Answer.{IsGiven};
 ghost use Rattle.qpu_tool.specs.Answers.{Judged};
 ghost use Rattle.qpu_tool.specs.declared.command.TheConstants.{MOST_INPUT};
 
@@ -62,7 +62,7 @@ fn say_run<K: Sink>(
 ) -> Status
     requires stands { IsFinal machine.now.state }
     requires ending { ending ≡ ending_of machine.now.state }
-    ensures { Gives (run_answer text.now (steps_of journal.now) machine.now.state) (K.shown sink.old) (K.shown sink.new) result }
+    ensures { IsGiven (run_answer text.now (steps_of journal.now) machine.now.state) (K.shown sink.old) (K.shown sink.new) result }
 {
     match write_run(text, journal, machine, sink) {
         Ok(()) => status_for(ending),

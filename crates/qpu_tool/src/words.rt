@@ -1,6 +1,6 @@
 //! The commands and their words.
 ghost use Rattle.std.specs.Prelude.{◌≡◌, ◌≤◌, ◌↔◌, IsTrue, IfSome, IfNone, [], ◌∷◌, map, string_bytes};
-ghost use Rattle.qpu_tool.specs.Commands.{IsRun, IsCommand, IsNoCommand, limit_of};
+ghost use Rattle.qpu_tool.specs.Commands.{IsRunCommand, IsCommand, IsNoCommand, limit_of};
 
 use crate::command::{MOST_INPUT, MOST_RECORD};
 
@@ -41,7 +41,7 @@ fn is_word(word: &String, text: &str) -> bool
 
 /// Whether the words are those of a run without workers.
 fn is_run(words: &[String]) -> bool
-    ensures { IsTrue result ↔ IsRun (map string_bytes words.now) }
+    ensures { IsTrue result ↔ IsRunCommand (map string_bytes words.now) }
 {
     let [command, option, workers] = words else {
         return false;

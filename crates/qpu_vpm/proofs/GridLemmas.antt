@@ -1,9 +1,31 @@
 -- Rows of sixteen words joined to one list.
-use Rattle.std.proofs.Common.{◌≡◌, ℕ, zero, suc, ◌+◌, ◌-◌, ◌*◌, ◌<◌, List, [], ◌∷◌, ◌++◌, length, get_or, set, refl, ap, sym, ◌∙◌, arith, length-append, length-set}
-use Rattle.std.specs.List.{concat}
-use Rattle.std.proofs.lemmas.List.{get_or_append_left, get_or-append_right, set-append_left, set-append_right}
+use Rattle.std.proofs.Common.{◌≡◌, ℕ, zero, suc, ◌+◌, ◌-◌, ◌*◌, ◌<◌, List, [], ◌∷◌, ◌++◌, length, get_or, set, refl, ap, sym, ◌∙◌, arith, length-append, length-set, drop}
+use Rattle.std.specs.List.{concat, All}
+use Rattle.std.proofs.lemmas.List.{get_or_append_left, get_or-append_right, set-append_left, set-append_right, take_at, drop_at, drop-drop}
 use Rattle.std.proofs.lemmas.List.Elements.{All-head, All-tail}
-use Rattle.qpu_vpm.specs.RowsReturn.{AreLong}
+use Rattle.qpu_vpm.specs.Grid.{grid_row}
+
+-- each row has sixteen words
+abbrev pub AreLong : List (List ℕ) → Type 0
+AreLong rows = All (λ row. length row ≡ 16) rows
+
+drop_nothing : (n : ℕ) → drop n (let e : List ℕ = [] in e) ≡ []
+drop_nothing zero = refl
+drop_nothing (suc n) = refl
+
+-- the words behind a row
+drop_row : (x : List ℕ) (more : List ℕ) (row : ℕ) → length x ≡ 16 → drop (16 * suc row) (x ++ more) ≡ drop (16 * row) more
+drop_row x more row long =
+    let e : 16 * suc row ≡ 16 + 16 * row = omega arith in
+    rw e (sym (drop-drop (16 * row) 16 (x ++ more)) ∙ ap (drop (16 * row)) (drop_at x more 16 long))
+
+-- a row of the words
+pub row_joined : (rows : List (List ℕ)) (row : ℕ) → AreLong rows → row < length rows → grid_row (concat rows) row ≡ get_or rows row []
+row_joined [] row long low = absurd (omega arith)
+row_joined (x ∷ rows) zero long low = take_at x (concat rows) 16 (All-head (λ row. length row ≡ 16) x rows long)
+row_joined (x ∷ rows) (suc row) long low =
+    rw (drop_row x (concat rows) row (All-head (λ row. length row ≡ 16) x rows long))
+    (row_joined rows row (All-tail (λ row. length row ≡ 16) x rows long) (omega arith))
 
 -- how many words rows have
 pub length_joined : (rows : List (List ℕ)) → AreLong rows → length (concat rows) ≡ 16 * length rows

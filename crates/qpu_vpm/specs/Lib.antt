@@ -1,5 +1,4 @@
 pub mod Cells
 pub mod Fields
 pub mod Grid
-pub mod RowsReturn
 pub mod Values

@@ -1,22 +1,23 @@
 ghost use Rattle.std.specs.Prelude.{◌≡◌, ◌<◌, ◌*◌, length, replicate, slice_index, slice_set};
 ghost use Rattle.qpu_word.specs.declared.code.TheConstants.{VPM_ROWS, VPM_COLUMNS};
 ghost use Rattle.qpu_vpm.specs.Cells.{cell};
-ghost use Rattle.qpu_vpm.specs.Grid.{row_of};
+ghost use Rattle.qpu_vpm.specs.Grid.{grid_row};
 ghost use Rattle.qpu_vpm.specs.Fields.{setup_cells};
 ghost use Rattle.qpu_vpm.specs.Values.{vpm_values, with_cells};
 
 use crate::setup::VectorSetup;
+use qpu_word::code::{VPM_COLUMNS, VPM_ROWS};
 use qpu_word::{LANES, Lanes};
 use std::marker::Model;
 
 /// How many rows there are.
-const ROWS: usize = 64;
+const ROWS: usize = VPM_ROWS as usize;
 
 /// How many words a row has.
-const COLUMNS: usize = 16;
+const COLUMNS: usize = VPM_COLUMNS as usize;
 
 /// The VPM: 64 rows of sixteen words. Contracts see its 1,024 words, row by row.
-#[derive(Clone, Copy, Debug)]
+#[derive(Debug, Drop)]
 pub struct Vpm {
     rows: [[u32; COLUMNS]; ROWS],
 }
@@ -26,16 +27,11 @@ impl Model for Vpm {
 
     ghost Value = { List ℕ };
 
-    ghost use Rattle.qpu_vpm.specs.Grid.{words_of, rows_back, IsGrid};
-    ghost use Rattle.qpu_vpm.specs.RowsReturn.{rows_return};
+    ghost use Rattle.qpu_vpm.specs.Grid.{grid_words, IsGrid};
 
-    ghost view = { words_of };
+    ghost view = { grid_words };
 
     ghost invariant = { IsGrid };
-
-    ghost inverse = { rows_back };
-
-    ghost inverse_ok = { rows_return };
 }
 
 impl Vpm {
@@ -46,6 +42,13 @@ impl Vpm {
         Vpm {
             rows: [[0; COLUMNS]; ROWS],
         }
+    }
+
+    /// A VPM with the same words.
+    pub fn copy(&self) -> Vpm
+        ensures { result ≡ self.now }
+    {
+        Vpm { rows: self.rows }
     }
 
     /// The word in a row, below 64, and a column, below 16.
@@ -61,7 +64,7 @@ impl Vpm {
     /// The sixteen words of a row, below 64.
     pub fn row(&self, row: u32) -> &[u32]
         requires { row < VPM_ROWS }
-        ensures { result.now ≡ row_of self.now row }
+        ensures { result.now ≡ grid_row self.now row }
     {
         &self.rows[row as usize]
     }

@@ -4,7 +4,7 @@ use Rattle.std.specs.Prelude.{◌==◌, ◌||◌, nat_lt}
 use Rattle.qpu_word.specs.declared.word.Fields.{Fields}
 use Rattle.qpu_word.specs.declared.traffic.Ins.{Ins}
 use Rattle.qpu_word.specs.Processor.{ProcessorState}
-use Rattle.qpu_word.specs.Words.{is_unit_word, is_load, is_semaphore, is_branch, is_program_end, is_tmu_load, add_active, mul_active, add_writes, mul_writes, reads_a, reads_b, is_exchanged}
+use Rattle.qpu_word.specs.Words.{is_unit_word, is_load, is_semaphore, is_branch, is_program_end, is_tmu_load, add_active, mul_active, add_writes, mul_writes, reads_a, reads_b, swaps_writes}
 use Rattle.qpu_word.specs.Writing.{rotation, pack_mode}
 use Rattle.qpu_word.specs.Instruction.{add_values, add_carries, mul_values, plain_values, write_cond}
 use Rattle.qpu_word.specs.Canonical.{file_matters}
@@ -18,7 +18,7 @@ pub record IsApart (f g : Fields) : Type 0 where
   pub own_pack : (in_b : Bool) → pack_mode f in_b ≡ 0
 
 pub data SameFiles (f g : Fields) : Type 0 where
-  same : (is : is_exchanged g ≡ is_exchanged f) → SameFiles f g
+  same : (is : swaps_writes g ≡ swaps_writes f) → SameFiles f g
   apart : (is : IsApart f g) → SameFiles f g
 
 -- what a branch says

@@ -3,7 +3,7 @@ use Rattle.std.proofs.Common.{◌≡◌, ℕ, Bool, true, false, refl, sym, ◌�
 use Rattle.std.specs.Prelude.{◌==◌, ◌||◌, ◌&&◌}
 use Rattle.qpu_word.specs.declared.word.Fields.{Fields}
 use Rattle.qpu_word.specs.Lanes.{lanes}
-use Rattle.qpu_word.specs.Words.{is_unit_word, is_load, is_semaphore, is_branch, add_active, mul_active, add_writes, mul_writes, is_exchanged}
+use Rattle.qpu_word.specs.Words.{is_unit_word, is_load, is_semaphore, is_branch, add_active, mul_active, add_writes, mul_writes, swaps_writes}
 use Rattle.qpu_word.specs.Writing.{pack_mode}
 use Rattle.qpu_word.specs.Instruction.{loaded, plain_values}
 use Rattle.qpu_word.specs.Canonical.{file_matters}
@@ -34,7 +34,7 @@ plain_same : (f g : Fields) → is_branch g ≡ false → is_branch f ≡ false 
 unfolding plain_values
 plain_same f g none own kind immediate place = rw (none, own) (λ t. lanes (λ i. loaded_same f g kind immediate i t))
 
-load_ws : (f g : Fields) → HoldsImmediate g (canonical_load f) → exchange_matters f ≡ true → is_exchanged g ≡ is_exchanged f
+load_ws : (f g : Fields) → HoldsImmediate g (canonical_load f) → exchange_matters f ≡ true → swaps_writes g ≡ swaps_writes f
 unfolding canonical_load canonical_exchange
 load_ws f g h is = rw (h.ws, said_of (exchange_matters f) f.ws is) refl
 
@@ -149,7 +149,7 @@ semaphore_alike f g m a s down number =
 
 -- branches
 
-branch_ws : (f g : Fields) → HoldsBranch g (canonical_branch f) → exchange_matters f ≡ true → is_exchanged g ≡ is_exchanged f
+branch_ws : (f g : Fields) → HoldsBranch g (canonical_branch f) → exchange_matters f ≡ true → swaps_writes g ≡ swaps_writes f
 unfolding canonical_branch canonical_exchange
 branch_ws f g h is = rw (h.ws, said_of (exchange_matters f) f.ws is) refl
 

@@ -7,7 +7,7 @@ use Rattle.qpu_word.specs.declared.traffic.Ins.{Ins}
 use Rattle.qpu_word.specs.declared.fault.WordFault.TheVariants.{Packing, Rotation}
 use Rattle.qpu_word.specs.Processor.{ProcessorState}
 use Rattle.qpu_word.specs.Lanes.{lanes, lane}
-use Rattle.qpu_word.specs.Words.{is_small, is_unit_word, is_load, is_semaphore, is_branch, is_unary, add_active, mul_active, add_writes, mul_writes, add_uses, mul_uses, uses, reads_a, reads_b, is_exchanged, packs_row, bad_packing, has_fault}
+use Rattle.qpu_word.specs.Words.{is_small, is_unit_word, is_load, is_semaphore, is_branch, is_unary, add_active, mul_active, add_writes, mul_writes, add_uses, mul_uses, uses, reads_a, reads_b, swaps_writes, packs_row, bad_packing, has_fault}
 use Rattle.qpu_word.specs.Operations.{add_result, add_op, mul_op}
 use Rattle.qpu_word.specs.Operands.{row_of, unpacked, read_a, read_b, immediate_of, operand}
 use Rattle.qpu_word.specs.Writing.{rotation, pack_mode}
@@ -135,7 +135,7 @@ rows_matter false mul false matters by_mul by_add none = refl
 
 no_row : (f : Fields) → exchange_matters f ≡ false → packs_row f ≡ false
 no_row f none =
-    rows_matter (is_exchanged f) (mul_active f && nat_lt f.waddr_mul 32) (add_active f && nat_lt f.waddr_add 32) (exchange_matters f)
+    rows_matter (swaps_writes f) (mul_active f && nat_lt f.waddr_mul 32) (add_active f && nat_lt f.waddr_add 32) (exchange_matters f)
     (λ is. row_matters ((add_active f || add_writes f) && file_matters f.waddr_add) (mul_active f) (mul_writes f) (nat_lt f.waddr_mul 32) (f.waddr_mul == 37) (f.waddr_mul == 49) (f.waddr_mul == 50) is)
     (λ is. left_matters (add_active f) (add_writes f) (nat_lt f.waddr_add 32) (f.waddr_add == 37) (f.waddr_add == 49) (f.waddr_add == 50) ((mul_active f || mul_writes f) && file_matters f.waddr_mul) is)
     none
@@ -151,7 +151,7 @@ pack_zero true in_b pack is = refl
 pack_zero false true pack is = refl
 pack_zero false false pack is = is
 
-same_ws : (f g : Fields) → HoldsUnits g (canonical_units f) → exchange_matters f ≡ true → is_exchanged g ≡ is_exchanged f
+same_ws : (f g : Fields) → HoldsUnits g (canonical_units f) → exchange_matters f ≡ true → swaps_writes g ≡ swaps_writes f
 unfolding canonical_units canonical_exchange
 same_ws f g h is = rw (h.ws, said_of (exchange_matters f) f.ws is) refl
 

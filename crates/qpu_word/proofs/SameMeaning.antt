@@ -7,7 +7,7 @@ use Rattle.qpu_word.specs.declared.traffic.Ins.{Ins}
 use Rattle.qpu_word.specs.declared.setup.Book.{Book}
 use Rattle.qpu_word.specs.declared.state.Flags.{Flags}
 use Rattle.qpu_word.specs.Processor.{ProcessorState}
-use Rattle.qpu_word.specs.Words.{is_unit_word, is_load, is_branch, add_active, mul_active, add_writes, mul_writes, writes, writes_a, writes_b, writes_link, is_exchanged}
+use Rattle.qpu_word.specs.Words.{is_unit_word, is_load, is_branch, add_active, mul_active, add_writes, mul_writes, writes, writes_a, writes_b, writes_link, swaps_writes}
 use Rattle.qpu_word.specs.Lanes.{lane}
 use Rattle.qpu_word.specs.Operands.{row_of}
 use Rattle.qpu_word.specs.Writing.{rotation, rotated, stored, written, pack_mode}
@@ -59,21 +59,21 @@ chosen true a b c d left right = left
 chosen false a b c d left right = right
 
 writes_a_by : (f g : Fields) → Alike f g → SameFiles f g → (n : ℕ) → file_matters n ≡ true → writes_a g n ≡ writes_a f n
-writes_a_by f g s (same is) n near = rw is (chosen (is_exchanged f) _ _ _ _ (mul_to_same f g s n) (add_to_same f g s n))
+writes_a_by f g s (same is) n near = rw is (chosen (swaps_writes f) _ _ _ _ (mul_to_same f g s n) (add_to_same f g s n))
 writes_a_by f g s (apart is) n near =
     let add : (add_writes f && (f.waddr_add == n)) ≡ false = no_write (add_writes f) f.waddr_add n is.add near in
     let mul : (mul_writes f && (f.waddr_mul == n)) ≡ false = no_write (mul_writes f) f.waddr_mul n is.mul near in
-    none_of (is_exchanged g) _ _ (mul_to_same f g s n ∙ mul) (add_to_same f g s n ∙ add) ∙ sym (none_of (is_exchanged f) _ _ mul add)
+    none_of (swaps_writes g) _ _ (mul_to_same f g s n ∙ mul) (add_to_same f g s n ∙ add) ∙ sym (none_of (swaps_writes f) _ _ mul add)
 
 pub writes_a_same : (f g : Fields) → Alike f g → (n : ℕ) → file_matters n ≡ true → writes_a g n ≡ writes_a f n
 writes_a_same f g s n near = writes_a_by f g s s.files n near
 
 writes_b_by : (f g : Fields) → Alike f g → SameFiles f g → (n : ℕ) → file_matters n ≡ true → writes_b g n ≡ writes_b f n
-writes_b_by f g s (same is) n near = rw is (chosen (is_exchanged f) _ _ _ _ (add_to_same f g s n) (mul_to_same f g s n))
+writes_b_by f g s (same is) n near = rw is (chosen (swaps_writes f) _ _ _ _ (add_to_same f g s n) (mul_to_same f g s n))
 writes_b_by f g s (apart is) n near =
     let add : (add_writes f && (f.waddr_add == n)) ≡ false = no_write (add_writes f) f.waddr_add n is.add near in
     let mul : (mul_writes f && (f.waddr_mul == n)) ≡ false = no_write (mul_writes f) f.waddr_mul n is.mul near in
-    none_of (is_exchanged g) _ _ (add_to_same f g s n ∙ add) (mul_to_same f g s n ∙ mul) ∙ sym (none_of (is_exchanged f) _ _ add mul)
+    none_of (swaps_writes g) _ _ (add_to_same f g s n ∙ add) (mul_to_same f g s n ∙ mul) ∙ sym (none_of (swaps_writes f) _ _ add mul)
 
 pub writes_b_same : (f g : Fields) → Alike f g → (n : ℕ) → file_matters n ≡ true → writes_b g n ≡ writes_b f n
 writes_b_same f g s n near = writes_b_by f g s s.files n near
@@ -156,20 +156,20 @@ sent_a_by : (f g : Fields) (add add' mul mul' : List ℕ) → Alike f g → Same
 unfolding sent_to_a
 sent_a_by f g add add' mul mul' s (same is) v n near =
     rw (mul_to_same f g s n, add_to_same f g s n, is)
-    (file_by (is_exchanged f) (mul_writes f && (f.waddr_mul == n)) (add_writes f && (f.waddr_add == n)) mul mul' add add'
+    (file_by (swaps_writes f) (mul_writes f && (f.waddr_mul == n)) (add_writes f && (f.waddr_add == n)) mul mul' add add'
     (λ is. v.muls (left_of (mul_writes f) (f.waddr_mul == n) is)) (λ is. v.adds (left_of (add_writes f) (f.waddr_add == n) is)))
 sent_a_by f g add add' mul mul' s (apart is) v n near =
-    let none : writes_a f n ≡ false = none_of (is_exchanged f) _ _ (no_write (mul_writes f) f.waddr_mul n is.mul near) (no_write (add_writes f) f.waddr_add n is.add near) in
+    let none : writes_a f n ≡ false = none_of (swaps_writes f) _ _ (no_write (mul_writes f) f.waddr_mul n is.mul near) (no_write (add_writes f) f.waddr_add n is.add near) in
     rw (writes_a_by f g s (apart is) n near, none) refl
 
 sent_b_by : (f g : Fields) (add add' mul mul' : List ℕ) → Alike f g → SameFiles f g → AreSent f add add' mul mul' → (n : ℕ) → file_matters n ≡ true → sent_to_b g add' mul' n ≡ sent_to_b f add mul n
 unfolding sent_to_b
 sent_b_by f g add add' mul mul' s (same is) v n near =
     rw (mul_to_same f g s n, add_to_same f g s n, is)
-    (file_by (is_exchanged f) (add_writes f && (f.waddr_add == n)) (mul_writes f && (f.waddr_mul == n)) add add' mul mul'
+    (file_by (swaps_writes f) (add_writes f && (f.waddr_add == n)) (mul_writes f && (f.waddr_mul == n)) add add' mul mul'
     (λ is. v.adds (left_of (add_writes f) (f.waddr_add == n) is)) (λ is. v.muls (left_of (mul_writes f) (f.waddr_mul == n) is)))
 sent_b_by f g add add' mul mul' s (apart is) v n near =
-    let none : writes_b f n ≡ false = none_of (is_exchanged f) _ _ (no_write (add_writes f) f.waddr_add n is.add near) (no_write (mul_writes f) f.waddr_mul n is.mul near) in
+    let none : writes_b f n ≡ false = none_of (swaps_writes f) _ _ (no_write (add_writes f) f.waddr_add n is.add near) (no_write (mul_writes f) f.waddr_mul n is.mul near) in
     rw (writes_b_by f g s (apart is) n near, none) refl
 
 look_by : (m a : Bool) (x x' y y' : ℕ) → (m ≡ true → x' ≡ x) → (a ≡ true → y' ≡ y)
@@ -232,26 +232,26 @@ kept_written : (f g : Fields) (b b' : Bool) (a a' c c' : ℕ) (v v' : List ℕ) 
     → written b' a' (stored g p b' a' c' v') p0 ≡ written b a (stored f p b a c v) p0
 kept_written f g b b' a a' c c' v v' p p0 to cond sent kept pack = rw (to, cond, sent) (written_same f g b b' a c v p p0 kept pack)
 
-add_kept : (f g : Fields) → SameFiles f g → add_writes f ≡ true → IsKept f g (is_exchanged f) (is_exchanged g) f.waddr_add
+add_kept : (f g : Fields) → SameFiles f g → add_writes f ≡ true → IsKept f g (swaps_writes f) (swaps_writes g) f.waddr_add
 add_kept f g (same is) writes_it = one is
-add_kept f g (apart is) writes_it = far (is.add writes_it) (is.pack (is_exchanged g)) (is.own_pack (is_exchanged f))
+add_kept f g (apart is) writes_it = far (is.add writes_it) (is.pack (swaps_writes g)) (is.own_pack (swaps_writes f))
 
-mul_kept : (f g : Fields) → SameFiles f g → mul_writes f ≡ true → IsKept f g (not (is_exchanged f)) (not (is_exchanged g)) f.waddr_mul
+mul_kept : (f g : Fields) → SameFiles f g → mul_writes f ≡ true → IsKept f g (not (swaps_writes f)) (not (swaps_writes g)) f.waddr_mul
 mul_kept f g (same is) writes_it = one (ap not is)
-mul_kept f g (apart is) writes_it = far (is.mul writes_it) (is.pack (not (is_exchanged g))) (is.own_pack (not (is_exchanged f)))
+mul_kept f g (apart is) writes_it = far (is.mul writes_it) (is.pack (not (swaps_writes g))) (is.own_pack (not (swaps_writes f)))
 
 add_written : (f g : Fields) → Alike f g → (p p0 : ProcessorState) (ins : Ins) → add_writes f ≡ true
-    → written (is_exchanged g) g.waddr_add (add_stored g p ins) p0 ≡ written (is_exchanged f) f.waddr_add (add_stored f p ins) p0
+    → written (swaps_writes g) g.waddr_add (add_stored g p ins) p0 ≡ written (swaps_writes f) f.waddr_add (add_stored f p ins) p0
 unfolding add_stored
 add_written f g s p p0 ins is =
-    kept_written f g (is_exchanged f) (is_exchanged g) f.waddr_add g.waddr_add (write_cond f f.cond_add) (write_cond g g.cond_add) (add_sent f p ins) (add_sent g p ins) p p0
+    kept_written f g (swaps_writes f) (swaps_writes g) f.waddr_add g.waddr_add (write_cond f f.cond_add) (write_cond g g.cond_add) (add_sent f p ins) (add_sent g p ins) p p0
     (s.add_to is) (s.add_cond is) (add_sent_same f g s p ins is) (add_kept f g s.files is) s.pack
 
 mul_written : (f g : Fields) → Alike f g → (p p0 : ProcessorState) (ins : Ins) → mul_writes f ≡ true
-    → written (not (is_exchanged g)) g.waddr_mul (mul_stored g p ins) p0 ≡ written (not (is_exchanged f)) f.waddr_mul (mul_stored f p ins) p0
+    → written (not (swaps_writes g)) g.waddr_mul (mul_stored g p ins) p0 ≡ written (not (swaps_writes f)) f.waddr_mul (mul_stored f p ins) p0
 unfolding mul_stored
 mul_written f g s p p0 ins is =
-    kept_written f g (not (is_exchanged f)) (not (is_exchanged g)) f.waddr_mul g.waddr_mul (write_cond f f.cond_mul) (write_cond g g.cond_mul) (mul_sent f p ins) (mul_sent g p ins) p p0
+    kept_written f g (not (swaps_writes f)) (not (swaps_writes g)) f.waddr_mul g.waddr_mul (write_cond f f.cond_mul) (write_cond g g.cond_mul) (mul_sent f p ins) (mul_sent g p ins) p p0
     (s.mul_to is) (s.mul_cond is) (mul_sent_same f g s p ins is) (mul_kept f g s.files is) s.pack
 
 put_by : (acts : Bool) (x y p : ProcessorState) → (acts ≡ true → x ≡ y) → (if acts then x else p) ≡ (if acts then y else p)
@@ -262,13 +262,13 @@ put_add_same : (f g : Fields) → Alike f g → (p p0 : ProcessorState) (ins : I
 unfolding put_add
 put_add_same f g s p p0 ins =
     rw s.add
-    (put_by (add_writes f) (written (is_exchanged g) g.waddr_add (add_stored g p ins) p0) (written (is_exchanged f) f.waddr_add (add_stored f p ins) p0) p0 (add_written f g s p p0 ins))
+    (put_by (add_writes f) (written (swaps_writes g) g.waddr_add (add_stored g p ins) p0) (written (swaps_writes f) f.waddr_add (add_stored f p ins) p0) p0 (add_written f g s p p0 ins))
 
 put_mul_same : (f g : Fields) → Alike f g → (p p0 : ProcessorState) (ins : Ins) → put_mul g (mul_stored g p ins) p0 ≡ put_mul f (mul_stored f p ins) p0
 unfolding put_mul
 put_mul_same f g s p p0 ins =
     rw s.mul
-    (put_by (mul_writes f) (written (not (is_exchanged g)) g.waddr_mul (mul_stored g p ins) p0) (written (not (is_exchanged f)) f.waddr_mul (mul_stored f p ins) p0) p0 (mul_written f g s p p0 ins))
+    (put_by (mul_writes f) (written (not (swaps_writes g)) g.waddr_mul (mul_stored g p ins) p0) (written (not (swaps_writes f)) f.waddr_mul (mul_stored f p ins) p0) p0 (mul_written f g s p p0 ins))
 
 loaded_same : (f g : Fields) → Alike f g → (ins : Ins) (p : ProcessorState) → put_loaded g ins p ≡ put_loaded f ins p
 unfolding put_loaded

@@ -17,9 +17,9 @@ use Rattle.qpu_word.specs.declared.operation.AddOp.{AddOp}
 use Rattle.qpu_word.specs.declared.operation.MulOp.{MulOp}
 use Rattle.qpu_word.specs.declared.fault.FaultKind.{FaultKind}
 use Rattle.qpu_word.specs.declared.fault.FaultKind.TheVariants.{Branch}
-use Rattle.qpu_word.specs.declared.code.TheConstants.{KIND_LOAD, KIND_LOAD_SIGNED, NOWHERE, BRANCH_SLOTS, END_SLOTS, WORD_BYTES, WRITE_HOST_INT, WRITE_UNIFORMS_ADDRESS, WRITE_VPM, WRITE_VPM_SETUP, WRITE_DMA_ADDRESS, WRITE_TMU0_S, WRITE_TMU1_S}
+use Rattle.qpu_word.specs.declared.code.TheConstants.{KIND_LOAD, KIND_LOAD_SIGNED, NOWHERE, BRANCH_SLOTS, END_SLOTS, INSTRUCTION_BYTES, WRITE_HOST_INT, WRITE_UNIFORMS_ADDRESS, WRITE_VPM, WRITE_VPM_SETUP, WRITE_DMA_ADDRESS, WRITE_TMU0_S, WRITE_TMU1_S}
 use Rattle.qpu_word.specs.Lanes.{lanes, lane, mask}
-use Rattle.qpu_word.specs.Words.{writes_link, field, fields_of, is_unit_word, is_load, is_branch, is_program_end, is_tmu_load, add_active, mul_active, add_writes, mul_writes, is_exchanged, writes, writes_a, writes_b}
+use Rattle.qpu_word.specs.Words.{writes_link, field, fields_of, is_unit_word, is_load, is_branch, is_program_end, is_tmu_load, add_active, mul_active, add_writes, mul_writes, swaps_writes, writes, writes_a, writes_b}
 use Rattle.qpu_word.specs.Operations.{low32, add_result, add_carry, mul_result, add_op, mul_op}
 use Rattle.qpu_word.specs.Operands.{row_of, operand}
 use Rattle.qpu_word.specs.Flags.{branch_test}
@@ -70,7 +70,7 @@ after_slots place = place + 1 + BRANCH_SLOTS
 
 -- the link of a branch at a place: the byte address after its slots
 abbrev pub link_of : ℕ → ℕ
-link_of place = WORD_BYTES * after_slots place
+link_of place = INSTRUCTION_BYTES * after_slots place
 
 -- the values of a load immediate, or the link of a branch at a place
 unfoldable pub plain_values : Fields → ℕ → List ℕ
@@ -92,19 +92,19 @@ write_cond f cond = if is_branch f then 1 else cond
 
 -- what the add unit leaves at its address
 unfoldable pub add_stored : Fields → ProcessorState → Ins → List ℕ
-add_stored f p ins = stored f p (is_exchanged f) f.waddr_add (write_cond f f.cond_add) (add_sent f p ins)
+add_stored f p ins = stored f p (swaps_writes f) f.waddr_add (write_cond f f.cond_add) (add_sent f p ins)
 
 -- what the mul unit leaves at its address
 unfoldable pub mul_stored : Fields → ProcessorState → Ins → List ℕ
-mul_stored f p ins = stored f p (not (is_exchanged f)) f.waddr_mul (write_cond f f.cond_mul) (mul_sent f p ins)
+mul_stored f p ins = stored f p (not (swaps_writes f)) f.waddr_mul (write_cond f f.cond_mul) (mul_sent f p ins)
 
 -- the registers after the add unit's write
 unfoldable pub put_add : Fields → List ℕ → ProcessorState → ProcessorState
-put_add f values p = if add_writes f then written (is_exchanged f) f.waddr_add values p else p
+put_add f values p = if add_writes f then written (swaps_writes f) f.waddr_add values p else p
 
 -- the registers after the mul unit's write
 unfoldable pub put_mul : Fields → List ℕ → ProcessorState → ProcessorState
-put_mul f values p = if mul_writes f then written (not (is_exchanged f)) f.waddr_mul values p else p
+put_mul f values p = if mul_writes f then written (not (swaps_writes f)) f.waddr_mul values p else p
 
 -- r4 after a TMU load
 unfoldable pub put_loaded : Fields → Ins → ProcessorState → ProcessorState
@@ -167,7 +167,7 @@ target_of f p =
 unfoldable pub branch_fails : (ℕ → Bool) → Fields → ProcessorState → Bool
 branch_fails is_link f p =
     is_taken f p && (f.reg == 1)
-    && not ((target_of f p % WORD_BYTES == 0) && is_link (target_of f p / WORD_BYTES))
+    && not ((target_of f p % INSTRUCTION_BYTES == 0) && is_link (target_of f p / INSTRUCTION_BYTES))
 
 -- what is in progress one word later
 abbrev pub rest_later : Rest → Rest
@@ -178,7 +178,7 @@ rest_later (To n t) = if nat_lt n 2 then Straight else To (n - 1) t
 -- what is in progress after a word; a branch or program end replaces what was
 unfoldable pub rest_after : Fields → ProcessorState → Rest
 rest_after f p =
-    if is_branch f then (if is_taken f p then To BRANCH_SLOTS (target_of f p / WORD_BYTES) else Straight)
+    if is_branch f then (if is_taken f p then To BRANCH_SLOTS (target_of f p / INSTRUCTION_BYTES) else Straight)
     else if is_program_end f then Ending END_SLOTS
     else rest_later p.rest
 
@@ -214,11 +214,11 @@ sent_to f add mul address =
 
 -- the value sent to an address of file A
 unfoldable pub sent_to_a : Fields → List ℕ → List ℕ → ℕ → Option (List ℕ)
-sent_to_a f add mul address = if writes_a f address then Some (if is_exchanged f then mul else add) else None
+sent_to_a f add mul address = if writes_a f address then Some (if swaps_writes f then mul else add) else None
 
 -- the value sent to an address of file B
 unfoldable pub sent_to_b : Fields → List ℕ → List ℕ → ℕ → Option (List ℕ)
-sent_to_b f add mul address = if writes_b f address then Some (if is_exchanged f then add else mul) else None
+sent_to_b f add mul address = if writes_b f address then Some (if swaps_writes f then add else mul) else None
 
 -- a value's lane 0
 abbrev pub first_lane : Option (List ℕ) → Option ℕ
@@ -241,6 +241,10 @@ look_address f =
     else if add_writes f && is_look_address f.waddr_add then f.waddr_add
     else NOWHERE
 
+-- the TMU unit to which a look-up is issued; 0 where none is
+abbrev pub look_unit_of : Fields → ℕ
+look_unit_of f = if look_address f == WRITE_TMU1_S then 1 else 0
+
 -- what an instruction sends to the shared parts, the setups and the uniforms address, from what the
 -- units send
 unfoldable pub outs_from : Fields → List ℕ → List ℕ → Outs
@@ -251,7 +255,7 @@ outs_from f add mul = record {
   uniform_to = first_lane (sent_to f add mul WRITE_UNIFORMS_ADDRESS);
   load_at = first_lane (sent_to_a f add mul WRITE_DMA_ADDRESS);
   store_at = first_lane (sent_to_b f add mul WRITE_DMA_ADDRESS);
-  look_unit = (if look_address f == WRITE_TMU1_S then 1 else 0);
+  look_unit = look_unit_of f;
   look = as_lanes (sent_to f add mul (look_address f));
 }
 

@@ -1,11 +1,20 @@
 -- VideoCore IV 3D Architecture Reference Guide, "QPU Instruction Encoding" and "QPU Register
 -- Address Map": the fields of an instruction word, and which units act. The profile, its faults,
 -- and local and shared words are this project's own.
-use Rattle.std.specs.Prelude.{◌≡◌, if◌then◌else◌, ℕ, ◌+◌, ◌/◌, ◌%◌, ◌^◌, ◌==◌, ◌&&◌, ◌||◌, Bool, not, nat_lt, nat_le, List, [], ◌∷◌, Option, None, find}
+use Rattle.std.specs.Prelude.{◌≡◌, if◌then◌else◌, ℕ, ◌+◌, ◌/◌, ◌%◌, ◌^◌, ◌==◌, ◌&&◌, ◌||◌, Bool, not, nat_lt, nat_le, List, [], ◌∷◌, Option, None, find, map}
+use Rattle.qpu_word.specs.declared.word.Word.{Word}
 use Rattle.qpu_word.specs.declared.word.Fields.{Fields}
 use Rattle.qpu_word.specs.declared.fault.WordFault.{WordFault}
 use Rattle.qpu_word.specs.declared.fault.WordFault.TheVariants.{Signal, FloatOp, ReservedOp, ReadAddress, WriteAddress, Packing, BranchCond, LoadKind, Rotation, SemaphoreTarget, NoSource}
 use Rattle.qpu_word.specs.declared.code.TheConstants.{SIGNAL_NONE, SIGNAL_PROGRAM_END, SIGNAL_LOAD_TMU0, SIGNAL_LOAD_TMU1, SIGNAL_SMALL_IMMEDIATE, SIGNAL_LOAD_IMMEDIATE, SIGNAL_BRANCH, KIND_LOAD, KIND_LOAD_SIGNED, KIND_LOAD_UNSIGNED, KIND_SEMAPHORE, MUX_FILE_A, MUX_FILE_B, ROWS, NOWHERE, READ_UNIFORM, READ_NUMBER, READ_VPM, READ_DMA_BUSY, READ_DMA_WAIT, READ_MUTEX, WRITE_R3, WRITE_R5, WRITE_HOST_INT, WRITE_UNIFORMS_ADDRESS, WRITE_VPM, WRITE_VPM_SETUP, WRITE_DMA_ADDRESS, WRITE_MUTEX, WRITE_TMU0_S, WRITE_TMU1_S, ROTATE_BY_R5}
+
+-- 1 where a test holds, else 0
+abbrev pub one_if : Bool → ℕ
+one_if test = if test then 1 else 0
+
+-- the numbers of words
+unfoldable pub numbers_of : List Word → List ℕ
+numbers_of words = map (λ (word : Word). word.0) words
 
 -- bits low to low + n - 1 of a word
 abbrev pub field : ℕ → ℕ → ℕ → ℕ
@@ -131,18 +140,18 @@ reads f address = reads_a f address || reads_b f address
 -- where the units write
 
 -- the add unit writes file B, and the mul unit file A
-abbrev pub is_exchanged : Fields → Bool
-is_exchanged f = f.ws == 1
+abbrev pub swaps_writes : Fields → Bool
+swaps_writes f = f.ws == 1
 
 -- the unit of file A writes an address
 abbrev pub writes_a : Fields → ℕ → Bool
 writes_a f address =
-    if is_exchanged f then mul_writes f && (f.waddr_mul == address) else add_writes f && (f.waddr_add == address)
+    if swaps_writes f then mul_writes f && (f.waddr_mul == address) else add_writes f && (f.waddr_add == address)
 
 -- the unit of file B writes an address
 abbrev pub writes_b : Fields → ℕ → Bool
 writes_b f address =
-    if is_exchanged f then add_writes f && (f.waddr_add == address) else mul_writes f && (f.waddr_mul == address)
+    if swaps_writes f then add_writes f && (f.waddr_add == address) else mul_writes f && (f.waddr_mul == address)
 
 -- a unit writes an address
 abbrev pub writes : Fields → ℕ → Bool
@@ -174,7 +183,7 @@ is_link_address a = nat_le a WRITE_R3 || (a == NOWHERE)
 -- the unit that writes file A is active and writes a row
 abbrev pub packs_row : Fields → Bool
 packs_row f =
-    if is_exchanged f then mul_active f && nat_lt f.waddr_mul ROWS else add_active f && nat_lt f.waddr_add ROWS
+    if swaps_writes f then mul_active f && nat_lt f.waddr_mul ROWS else add_active f && nat_lt f.waddr_add ROWS
 
 -- the packing of an ALU or small immediate word can't be done
 abbrev pub bad_packing : Fields → Bool

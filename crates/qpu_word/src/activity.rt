@@ -1,6 +1,6 @@
 //! Which form a word has, which of its units act, and where they write.
 ghost use Rattle.std.specs.Prelude.{◌≡◌, ◌==◌, ◌&&◌, ◌||◌};
-ghost use Rattle.qpu_word.specs.Words.{is_alu, is_small, is_unit_word, is_load, is_semaphore, is_branch, is_program_end, is_tmu_load, add_active, mul_active, add_writes, mul_writes, is_exchanged, writes, writes_a, writes_b, writes_link};
+ghost use Rattle.qpu_word.specs.Words.{is_alu, is_small, is_unit_word, is_load, is_semaphore, is_branch, is_program_end, is_tmu_load, add_active, mul_active, add_writes, mul_writes, swaps_writes, writes, writes_a, writes_b, writes_link};
 
 use crate::code::{
     KIND_LOAD, KIND_LOAD_SIGNED, KIND_LOAD_UNSIGNED, KIND_SEMAPHORE, NOWHERE, SIGNAL_BRANCH,
@@ -66,7 +66,7 @@ impl Fields {
     }
 
     /// Whether it is a TMU load of either unit.
-    pub fn takes_words(&self) -> bool
+    pub fn has_tmu_load(&self) -> bool
         ensures { result ≡ (is_tmu_load self.now 0 || is_tmu_load self.now 1) }
     {
         self.sig == SIGNAL_LOAD_TMU0 || self.sig == SIGNAL_LOAD_TMU1
@@ -103,8 +103,8 @@ impl Fields {
     }
 
     /// Whether the add unit writes file B, and the mul unit file A.
-    pub fn is_exchanged(&self) -> bool
-        ensures { result ≡ is_exchanged self.now }
+    pub fn swaps_writes(&self) -> bool
+        ensures { result ≡ swaps_writes self.now }
     {
         self.ws == 1
     }
@@ -134,7 +134,7 @@ impl Fields {
     pub fn writes_a(&self, address: u32) -> bool
         ensures { result ≡ writes_a self.now address }
     {
-        if self.is_exchanged() {
+        if self.swaps_writes() {
             self.mul_writes_to(address)
         } else {
             self.add_writes_to(address)
@@ -145,7 +145,7 @@ impl Fields {
     pub fn writes_b(&self, address: u32) -> bool
         ensures { result ≡ writes_b self.now address }
     {
-        if self.is_exchanged() {
+        if self.swaps_writes() {
             self.add_writes_to(address)
         } else {
             self.mul_writes_to(address)

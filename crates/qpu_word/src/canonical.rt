@@ -4,13 +4,10 @@ ghost use Rattle.std.specs.Prelude.{◌≡◌, ◌↔◌, IsTrue};
 ghost use Rattle.qpu_word.specs.Canonical.{file_matters, unit_rule, add_rule, mul_rule, operand_rule, flags_rule, exchange_rule, row_rule, small_rule, load_rule, semaphore_rule, branch_rule, keeps_rules, is_canonical, IsCanonical};
 
 use crate::code::{
-    MUX_FILE_A, MUX_FILE_B, NOWHERE, ROTATE_BY_R5, ROWS, WRITE_DMA_ADDRESS, WRITE_R5,
+    COND_ALWAYS, MUX_FILE_A, MUX_FILE_B, NOWHERE, ROTATE_BY_R5, ROWS, WRITE_DMA_ADDRESS, WRITE_R5,
     WRITE_VPM_SETUP,
 };
 use crate::word::{Fields, Word};
-
-/// The condition always.
-pub(crate) const ALWAYS: u32 = 1;
 
 /// How many immediates a canonical semaphore word can have: a bit for the direction and four for
 /// the number.
@@ -32,7 +29,7 @@ fn unit_rule(active: bool, op: u32, cond: u32, address: u32, x: u32, y: u32) -> 
     ensures { result ≡ unit_rule active op cond address x y }
 {
     if active {
-        address != NOWHERE || cond == ALWAYS
+        address != NOWHERE || cond == COND_ALWAYS
     } else {
         op == 0 && cond == 0 && address == NOWHERE && x == 0 && y == 0
     }

@@ -5,8 +5,8 @@ ghost use Rattle.qpu_word.specs.Words.{word_fault, IsInProfile};
 ghost use Rattle.qpu_word.specs.Canonical.{IsCanonical};
 ghost use Rattle.qpu_word.specs.CanonicalWord.{exchange_matters, code_acts, said_by, address_by, cond_by, row_by, canonical_signal, canonical_row_b, canonical_exchange, second_by, canonical_units, canonical_load, canonical_semaphore, canonical_branch, canonical_of_form, canonical_word};
 
-use crate::canonical::{ALWAYS, SEMAPHORE_IMMEDIATES, file_matters};
-use crate::code::{MUX_FILE_A, MUX_FILE_B, NOWHERE, ROTATE_BY_R5, ROWS, SIGNAL_NONE};
+use crate::canonical::{SEMAPHORE_IMMEDIATES, file_matters};
+use crate::code::{COND_ALWAYS, MUX_FILE_A, MUX_FILE_B, NOWHERE, ROTATE_BY_R5, ROWS, SIGNAL_NONE};
 use crate::form::Form;
 use crate::word::{Fields, Word};
 
@@ -28,7 +28,14 @@ fn address_by(acts: bool, address: u32) -> u32
 fn cond_by(acts: bool, address: u32, cond: u32) -> u32
     ensures { result ≡ cond_by acts address cond }
 {
-    said_by(acts, if address == NOWHERE { ALWAYS } else { cond })
+    said_by(
+        acts,
+        if address == NOWHERE {
+            COND_ALWAYS
+        } else {
+            cond
+        },
+    )
 }
 
 /// A read address; 39 in place of a row that isn't read.

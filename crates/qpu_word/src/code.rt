@@ -84,8 +84,20 @@ pub const BRANCH_SLOTS: u32 = 3;
 
 pub const END_SLOTS: u32 = 2;
 
-/// Bytes of an instruction word.
-pub const WORD_BYTES: u32 = 8;
+/// The condition of a write that takes place in every lane, and that of a branch that is always taken.
+pub const COND_ALWAYS: u32 = 1;
+
+pub const BRANCH_ALWAYS: u32 = 15;
+
+/// Bytes of an instruction word, and of a word of memory or of the VPM.
+pub const INSTRUCTION_BYTES: u32 = 8;
+
+pub const WORD_BYTES: u32 = 4;
+
+/// TMU units of a processor, and the look-ups that one may have outstanding.
+pub const TMU_UNITS: u32 = 2;
+
+pub const LOOK_UPS: u32 = 4;
 
 /// Rows of the VPM, and words of a row.
 pub const VPM_ROWS: u32 = 64;

@@ -104,7 +104,7 @@ impl Fields {
     fn packs_row(&self) -> bool
         ensures { result ≡ packs_row self.now }
     {
-        if self.is_exchanged() {
+        if self.swaps_writes() {
             self.mul_active() && self.waddr_mul < ROWS
         } else {
             self.add_active() && self.waddr_add < ROWS

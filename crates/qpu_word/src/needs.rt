@@ -90,7 +90,7 @@ impl Fields {
             + bit(Needs::STORE_BUSY, self.reads_b(READ_DMA_BUSY))
             + bit(Needs::LOAD_WAIT, self.reads_a(READ_DMA_WAIT))
             + bit(Needs::STORE_WAIT, self.reads_b(READ_DMA_WAIT))
-            + bit(Needs::TAKE, self.takes_words())
+            + bit(Needs::TAKE, self.has_tmu_load())
             + bit(Needs::ACQUIRE, self.reads(READ_MUTEX))
     }
 

@@ -1,5 +1,5 @@
 use Rattle.std.proofs.Common.{◌≡◌, sym, subst, Ok, ℕ, List}
-use Rattle.qpu_asm.specs.Answers.{StopsAt}
+use Rattle.qpu_asm.specs.Answers.{StopsBy}
 use Rattle.qpu_asm.specs.Assembly.{encoding, IsAssembly, IsItsFault}
 use Rattle.qpu_asm.proofs.AnswerLemmas.{expansion_fault, words_due, stop_due}
 use Rattle.qpu_asm.proofs.assembly.assemble_tokens.Goals as goal
@@ -15,6 +15,6 @@ returns-in-Ok-encode-clause-ok c =
 
 pub returns-clause-err : goal.returns-clause-err
 returns-clause-err c =
-    let s = subst (λ text. StopsAt (encoding text (record { lines = c.in-Ok.expanded.lines.items; labels = c.in-Ok.expanded.labels.items })) c.in-Err-encode.stop) c.as_bytes.ensures.value c.in-Err-encode.ensures.due in
+    let s = subst (λ text. StopsBy (encoding text (record { lines = c.in-Ok.expanded.lines.items; labels = c.in-Ok.expanded.labels.items })) c.in-Err-encode.stop) c.as_bytes.ensures.value c.in-Err-encode.ensures.due in
     subst (λ fault. IsItsFault c.args.text.now fault) (sym c.fault.ensures)
     (stop_due c.args.text.now c.args.tokens.now _ c.in-Err-encode.stop c.requires c.in-Ok.ensures.ok s)

@@ -1,5 +1,6 @@
 use Rattle.std.proofs.Common.{◌≡◌, ◌≤◌, ◌+◌, length}
-use Rattle.qpu_asm.specs.HexLines.{hex_lines, words_behind, hex_words, numbers_of}
+use Rattle.qpu_word.specs.Words.{numbers_of}
+use Rattle.qpu_asm.specs.HexLines.{hex_lines, words_behind, hex_words}
 use Rattle.qpu_asm.proofs.words.read_words.Given as goal
 
 abbrev pub invariant-loop-words : goal.invariant-loop-words

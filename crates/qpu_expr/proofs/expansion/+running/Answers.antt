@@ -1,7 +1,7 @@
 use Rattle.std.proofs.Common.{◌≡◌, ◌∷◌, ◌-◌, length, take, drop, sym, ap, subst, ◌∙◌, Ok}
 use Rattle.std.proofs.lemmas.Result.{err_from_is_err_and}
 use Rattle.qpu_expr.specs.Deeds.{line_does}
-use Rattle.qpu_expr.specs.Leads.{StopsAt}
+use Rattle.qpu_expr.specs.Leads.{StopsBy}
 use Rattle.qpu_expr.specs.Expansion.{run_within}
 use Rattle.qpu_expr.specs.Nesting.{is_deepest, below}
 use Rattle.qpu_expr.proofs.RunLemmas.{line_more, act_stopped, first_line, turn_more}
@@ -22,7 +22,7 @@ run_lines-returns-in_err-perform t c =
     subst (λ d. line_does c.args.text.now d line behind c.loop-rest.state ≡ Ok (c.in_ok-act.act, c.take_line.new.state)) c.is_deepest.ensures c.in_ok-act.ensures in
     let p = err_from_is_err_and c.from_residual-in_err-perform.result c.from_residual-in_err-perform.ensures.1 in
     rw (p.1, p.2)
-    (subst (λ due. StopsAt due c.in_err-perform.field-0.0) (ap (λ xs. run_within c.args.text.now c.args.depth xs c.loop-rest.state) (sym e) ∙ c.loop-rest.invariant)
+    (subst (λ due. StopsBy due c.in_err-perform.field-0.0) (ap (λ xs. run_within c.args.text.now c.args.depth xs c.loop-rest.state) (sym e) ∙ c.loop-rest.invariant)
     (act_stopped c.args.text.now c.args.depth line behind c.in_ok-act.act c.loop-rest.state c.take_line.new.state c.in_err-perform.field-0.0 does c.in_err-perform.ensures))
 
 pub run_lines-loop-rest-preserved : goal.run_lines-loop-rest-preserved

@@ -1,7 +1,6 @@
 use Rattle.std.proofs.Common.{ℕ, ◌<◌}
 use Rattle.std.specs.Prelude.{slice_index}
-use Rattle.qpu_word.specs.Words.{IsInProfile}
-use Rattle.qpu_flow.specs.Code.{numbers_of}
+use Rattle.qpu_word.specs.Words.{IsInProfile, numbers_of}
 use Rattle.qpu_flow.proofs.flow.first_outside.Given as goal
 
 -- the words before are in the profile

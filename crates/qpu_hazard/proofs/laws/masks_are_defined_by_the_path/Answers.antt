@@ -1,5 +1,5 @@
 use Rattle.qpu_hazard.proofs.MaskLemmas.{zn_defined, carry_defined}
-use Rattle.qpu_hazard.proofs.laws.masks_are_defined_by_the_path.Goals as goal
+use Rattle.qpu_hazard.proofs.laws.a_word_defines_masks.Goals as goal
 
 pub returns-clause-zn : goal.returns-clause-zn
 returns-clause-zn c = zn_defined

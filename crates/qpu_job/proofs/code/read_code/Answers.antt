@@ -1,6 +1,6 @@
 -- The words are those of the assembler, and few enough.
 use Rattle.std.proofs.Common.{arith}
-use Rattle.qpu_flow.specs.Code.{numbers_of}
+use Rattle.qpu_word.specs.Words.{numbers_of}
 use Rattle.qpu_flow.proofs.CodeLemmas.{length_numbers}
 use Rattle.qpu_job.proofs.code.read_code.Goals as goal
 

@@ -7,19 +7,19 @@ use Rattle.qpu_shared.specs.Instruction.{first_cause, is_running, pending_of}
 use Rattle.qpu_hazard.specs.declared.checked.Programs.{Programs}
 use Rattle.qpu_machine.specs.Kept.{IsOnPath}
 use Rattle.qpu_machine.specs.Machine.{MachineState, processor_of, words_of}
-use Rattle.qpu_machine.specs.Views.{Started, state_of}
+use Rattle.qpu_machine.specs.Views.{Started, machine_state}
 use Rattle.qpu_machine.proofs.SoundLemmas.{on_running, number_running}
 use Rattle.qpu_machine.proofs.WordLemmas.{place_in}
 use Rattle.qpu_machine.proofs.machine.Machine.cause_at.Goals as goal
 
 pub unreachable-requires : goal.unreachable-requires
 unreachable-requires c =
-    let same : c.args.self.now.state ≡ state_of c.self.inside = sym (ap (λ (s : Started). s.state) c.self.view_is) in
+    let same : c.args.self.now.state ≡ machine_state c.self.inside = sym (ap (λ (s : Started). s.state) c.self.view_is) in
     let on =
-    on_running (state_of c.self.inside) c.args.q c.args.processor.now c.self.invariant.sound c.requires.low
+    on_running (machine_state c.self.inside) c.args.q c.args.processor.now c.self.invariant.sound c.requires.low
     (subst (λ (m : MachineState). processor_of m c.args.q ≡ Some c.args.processor.now) same c.requires.there)
     (subst (λ (m : MachineState). is_running m.limit c.args.processor.now ≡ true) same c.requires.runs) in
-    let code : c.program_at-program.result.now ≡ words_of (state_of c.self.inside) c.args.q =
+    let code : c.program_at-program.result.now ≡ words_of (machine_state c.self.inside) c.args.q =
     c.program_at-program.ensures ∙ ap (λ (x : Programs). slice_index_or x.list.items (slice_index c.self.inside.program_of c.args.q) []) c.deref.ensures in
     let looks = (pending_of c.self.inside.shared c.args.q).looks in
     c.in_default.ensures
@@ -29,18 +29,18 @@ unreachable-requires c =
 
 pub returns-clause-cause : goal.returns-clause-cause
 returns-clause-cause c =
-    let same : c.args.self.now.state ≡ state_of c.self.inside = sym (ap (λ (s : Started). s.state) c.self.view_is) in
-    let code : c.program_at-program.result.now ≡ words_of (state_of c.self.inside) c.args.q =
+    let same : c.args.self.now.state ≡ machine_state c.self.inside = sym (ap (λ (s : Started). s.state) c.self.view_is) in
+    let code : c.program_at-program.result.now ≡ words_of (machine_state c.self.inside) c.args.q =
     c.program_at-program.ensures ∙ ap (λ (x : Programs). slice_index_or x.list.items (slice_index c.self.inside.program_of c.args.q) []) c.deref.ensures in
-    let word : c.in-Some.word.0 ≡ slice_index (words_of (state_of c.self.inside) c.args.q) c.args.processor.now.place =
+    let word : c.in-Some.word.0 ≡ slice_index (words_of (machine_state c.self.inside) c.args.q) c.args.processor.now.place =
     ap (λ (w : Word). w.0) c.in-Some.ensures.1 ∙ ap (λ (words : List ℕ). slice_index words c.place.result) code
-    ∙ ap (slice_index (words_of (state_of c.self.inside) c.args.q)) c.place.ensures in
+    ∙ ap (slice_index (words_of (machine_state c.self.inside) c.args.q)) c.place.ensures in
     c.awaits.ensures
     ∙ ap (λ (w : ℕ). first_cause (fields_of w) c.args.q c.self.inside.shared) word
     ∙ ap (λ (m : MachineState). first_cause (fields_of (slice_index (words_of m c.args.q) c.args.processor.now.place)) c.args.q m.shared) (sym same)
 
 pub returns-clause-number : goal.returns-clause-number
 returns-clause-number c =
-    let same : c.args.self.now.state ≡ state_of c.self.inside = sym (ap (λ (s : Started). s.state) c.self.view_is) in
-    number_running (state_of c.self.inside) c.args.q c.args.processor.now c.self.invariant.sound c.requires.low
+    let same : c.args.self.now.state ≡ machine_state c.self.inside = sym (ap (λ (s : Started). s.state) c.self.view_is) in
+    number_running (machine_state c.self.inside) c.args.q c.args.processor.now c.self.invariant.sound c.requires.low
     (subst (λ (m : MachineState). processor_of m c.args.q ≡ Some c.args.processor.now) same c.requires.there)

@@ -6,14 +6,14 @@ use Rattle.qpu_machine.specs.Kept.{IsKept}
 use Rattle.qpu_machine.specs.Local.{LocalSteps}
 use Rattle.qpu_machine.specs.Bound.{steps_left}
 use Rattle.qpu_machine.specs.Machine.{MachineState, processor_of, words_of}
-use Rattle.qpu_machine.specs.Views.{Started, state_of}
+use Rattle.qpu_machine.specs.Views.{Started, machine_state}
 use Rattle.qpu_machine.proofs.ScheduleLemmas.{started_there}
 use Rattle.qpu_machine.proofs.LocalLemmas.{few_local}
 use Rattle.qpu_machine.proofs.machine.Machine.stretched.Goals as goal
 
 pub stretch-steps-requires-clause-kept : goal.stretch-steps-requires-clause-kept
 stretch-steps-requires-clause-kept c =
-    let m : MachineState = state_of c.self.inside in
+    let m : MachineState = machine_state c.self.inside in
     let there : processor_of m c.args.q ≡ Some c.in-Some-Some.processor = search rules in
     let code : c.program_at-program.result.now ≡ words_of m c.args.q =
     c.program_at-program.ensures ∙ ap (λ (x : Programs). slice_index_or x.list.items (slice_index c.self.inside.program_of c.args.q) []) c.deref.ensures in
@@ -22,7 +22,7 @@ stretch-steps-requires-clause-kept c =
 
 pub returns-clause-few : goal.returns-clause-few
 returns-clause-few c =
-    let m : MachineState = state_of c.self.inside in
+    let m : MachineState = machine_state c.self.inside in
     let same : c.args.self.now.state ≡ m = sym (ap (λ (s : Started). s.state) c.self.view_is) in
     let there : processor_of m c.args.q ≡ Some c.in-Some-Some.processor = search rules in
     let code : c.program_at-program.result.now ≡ words_of m c.args.q =

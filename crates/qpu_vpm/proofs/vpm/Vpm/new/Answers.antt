@@ -1,4 +1,4 @@
-use Rattle.std.proofs.Common.{◌≡◌, length, refl, replicate}
+use Rattle.std.proofs.Common.{◌≡◌, length, refl}
 use Rattle.std.proofs.lemmas.List.Elements.{All-replicate}
 use Rattle.qpu_vpm.proofs.vpm.Vpm.new.Goals as goal
 

@@ -1,6 +1,6 @@
 -- A row of the VPM's words.
 use Rattle.std.proofs.Common.{sym, arith}
-use Rattle.qpu_vpm.specs.RowsReturn.{row_joined}
+use Rattle.qpu_vpm.proofs.GridLemmas.{row_joined}
 use Rattle.qpu_vpm.proofs.vpm.Vpm.row.Goals as goal
 
 pub returns : goal.returns
