@@ -2,21 +2,21 @@
 -- register as destination or operand. A `-` is none of them.
 use Rattle.std.specs.Prelude.{ℕ, ◌==◌, ◌&&◌, ◌||◌, Bool, false, nat_eq, List, [], ◌∷◌, codes}
 use Rattle.std.specs.Cmp.Lexicographic.{pointwise}
-use Rattle.qpu_token.specs.Words.{between, is_digit}
+use Rattle.qpu_token.specs.Words.{byte_between, is_digit}
 
 -- digits of 0 to 31, with no leading zero
 abbrev pub is_row_number : List ℕ → Bool
 is_row_number [] = false
 is_row_number (a ∷ []) = is_digit a
-is_row_number (a ∷ b ∷ []) = (between 49 50 a && is_digit b) || ((a == 51) && between 48 49 b)
+is_row_number (a ∷ b ∷ []) = (byte_between 49 50 a && is_digit b) || ((a == 51) && byte_between 48 49 b)
 is_row_number (a ∷ b ∷ c ∷ rest) = false
 
 -- `r0` to `r5`, `ra0` to `ra31`, `rb0` to `rb31`
 unfoldable pub is_numbered : List ℕ → Bool
 is_numbered [] = false
 is_numbered (a ∷ []) = false
-is_numbered (a ∷ b ∷ []) = (a == 114) && between 48 53 b
-is_numbered (a ∷ b ∷ c ∷ rest) = (a == 114) && between 97 98 b && is_row_number (c ∷ rest)
+is_numbered (a ∷ b ∷ []) = (a == 114) && byte_between 48 53 b
+is_numbered (a ∷ b ∷ c ∷ rest) = (a == 114) && byte_between 97 98 b && is_row_number (c ∷ rest)
 
 abbrev pub is_text : List ℕ → List ℕ → Bool
 is_text word text = pointwise nat_eq word text

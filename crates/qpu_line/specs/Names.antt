@@ -12,10 +12,10 @@ use Rattle.qpu_word.specs.Words.{between}
 -- digits of 0 to 31, with no leading zero
 abbrev pub row_number : List ℕ → Option ℕ
 row_number [] = None
-row_number (a ∷ []) = if between 48 57 a then Some (a - 48) else None
+row_number (a ∷ []) = if between 48 a 57 then Some (a - 48) else None
 row_number (a ∷ b ∷ []) =
-    if between 49 50 a && between 48 57 b then Some (10 * (a - 48) + (b - 48))
-    else if (a == 51) && between 48 49 b then Some (30 + (b - 48))
+    if between 49 a 50 && between 48 b 57 then Some (10 * (a - 48) + (b - 48))
+    else if (a == 51) && between 48 b 49 then Some (30 + (b - 48))
     else None
 row_number (a ∷ b ∷ c ∷ rest) = None
 

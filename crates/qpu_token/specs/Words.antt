@@ -6,20 +6,20 @@ use Rattle.qpu_token.specs.declared.piece.Shape.TheVariants.{Blank, Comment, Nam
 
 -- bytes
 
-abbrev pub between : ℕ → ℕ → ℕ → Bool
-between low high byte = nat_le low byte && nat_le byte high
+abbrev pub byte_between : ℕ → ℕ → ℕ → Bool
+byte_between low high byte = nat_le low byte && nat_le byte high
 
 -- `A` to `Z`, `a` to `z`, `_`
 abbrev pub is_letter : ℕ → Bool
-is_letter byte = between 65 90 byte || between 97 122 byte || (byte == 95)
+is_letter byte = byte_between 65 90 byte || byte_between 97 122 byte || (byte == 95)
 
 -- `0` to `9`
 abbrev pub is_digit : ℕ → Bool
-is_digit byte = between 48 57 byte
+is_digit byte = byte_between 48 57 byte
 
 -- `0` to `9`, `a` to `f`, `A` to `F`
 abbrev pub is_hex_digit : ℕ → Bool
-is_hex_digit byte = is_digit byte || between 97 102 byte || between 65 70 byte
+is_hex_digit byte = is_digit byte || byte_between 97 102 byte || byte_between 65 70 byte
 
 abbrev pub is_name_byte : ℕ → Bool
 is_name_byte byte = is_letter byte || is_digit byte
@@ -31,7 +31,7 @@ is_blank byte = (byte == 32) || (byte == 9)
 -- the signs of one byte: `%` `&`, `(` to `/`, `:` `;` `^` `|` `~`
 abbrev pub is_sign_byte : ℕ → Bool
 is_sign_byte byte =
-    (byte == 37) || (byte == 38) || between 40 47 byte || (byte == 58) || (byte == 59) || (byte == 94) || (byte == 124) || (byte == 126)
+    (byte == 37) || (byte == 38) || byte_between 40 47 byte || (byte == 58) || (byte == 59) || (byte == 94) || (byte == 124) || (byte == 126)
 
 -- any byte but LF
 abbrev pub stays_in_line : ℕ → Bool
@@ -81,7 +81,7 @@ is_word dotted LineEnd word = is_line_end word
 
 -- the value of a digit
 abbrev pub digit_of : ℕ → ℕ
-digit_of byte = if is_digit byte then byte - 48 else if between 97 102 byte then byte - 87 else byte - 55
+digit_of byte = if is_digit byte then byte - 48 else if byte_between 97 102 byte then byte - 87 else byte - 55
 
 -- the number that digits write
 abbrev pub value_in : ℕ → List ℕ → ℕ
