@@ -1,4 +1,3 @@
 pub mod UnitLemmas
 pub mod StayLemmas
 pub mod StoreLemmas
-pub mod AloneLemmas

@@ -4,7 +4,6 @@
 //! from or sends to the shared parts goes through its door, the trait `Port`.
 #![tactic(auto)]
 
-mod alone;
 mod control;
 mod flagging;
 mod outs;
@@ -16,7 +15,6 @@ mod stepping;
 mod storing;
 mod units;
 
-pub use alone::is_local;
 pub use processor::Processor;
 pub use qpu_word::{Flags, Halt};
 

@@ -7,9 +7,13 @@ use Rattle.qpu_word.specs.Instruction.{local_result, is_link_point, halted}
 use Rattle.qpu_shared.specs.Instruction.{is_running}
 use Rattle.qpu_machine.specs.Machine.{MachineState, processor_of, words_of}
 
+-- the next word of a processor of a program is local
+abbrev pub is_at_local : List ℕ → ProcessorState → Bool
+is_at_local words p = is_local (fields_of (slice_index words p.place))
+
 -- a processor of a program has a local step under a limit: it is running, and its next word is local
 abbrev pub is_local_next : List ℕ → ℕ → ProcessorState → Bool
-is_local_next words limit p = is_running limit p && is_local (fields_of (slice_index words p.place))
+is_local_next words limit p = is_running limit p && is_at_local words p
 
 -- the processor that a word leaves, which has faulted where the word does
 abbrev pub or_halted : ProcessorState → Result ProcessorState FaultKind → ProcessorState

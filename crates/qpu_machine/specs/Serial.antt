@@ -1,21 +1,21 @@
 -- The serial schedule: the order of a run without workers. This project's own.
 use Rattle.std.specs.Prelude.{◌≡◌, ℕ, ◌+◌, ◌<◌, ◌&&◌, Bool, true, false, List, [], ◌∷◌, ◌++◌, Option, Some, None, slice_index}
 use Rattle.qpu_word.specs.declared.code.TheConstants.{PROCESSORS}
-use Rattle.qpu_word.specs.Words.{fields_of, is_local}
 use Rattle.qpu_word.specs.Processor.{ProcessorState}
 use Rattle.qpu_machine.specs.declared.actor.Actor.{Actor}
 use Rattle.qpu_machine.specs.declared.actor.Actor.TheVariants.{Exec, Load, Store, Fetch}
 use Rattle.qpu_machine.specs.Machine.{MachineState, Step, after_step, is_enabled, processor_of, words_of}
 use Rattle.qpu_machine.specs.Ending.{IsFinal}
+use Rattle.qpu_machine.specs.Local.{is_at_local}
 
--- the next word of a processor is local
-abbrev pub is_at_local : List ℕ → Option ProcessorState → Bool
-is_at_local words None = false
-is_at_local words (Some p) = is_local (fields_of (slice_index words p.place))
+-- a processor was started, and its next word is local
+abbrev pub stands_at_local : List ℕ → Option ProcessorState → Bool
+stands_at_local words None = false
+stands_at_local words (Some p) = is_at_local words p
 
 -- a processor has a step, and its next word is local
 abbrev pub has_local_step : MachineState → ℕ → Bool
-has_local_step m q = is_enabled m (Exec q) && is_at_local (words_of m q) (processor_of m q)
+has_local_step m q = is_enabled m (Exec q) && stands_at_local (words_of m q) (processor_of m q)
 
 -- a processor's local words, up to its next shared word or the end of its steps
 pub data Stretch (q : ℕ) : MachineState → List Actor → MachineState → Type 0 where

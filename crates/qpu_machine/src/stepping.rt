@@ -12,7 +12,7 @@ ghost use Rattle.qpu_machine.specs.Machine.{MachineState, processor_of, words_of
 ghost use Rattle.qpu_machine.specs.Took.{TookWord};
 
 use qpu_hazard::{Checked, Programs};
-use qpu_local::{Processor, is_local};
+use qpu_local::Processor;
 use qpu_shared::{Did, Shared};
 use qpu_word::{Fields, Program};
 
@@ -49,7 +49,7 @@ fn do_word(p: &mut Processor, program: &Checked, shared: &mut Shared, q: u32) ->
         unreachable!()
     };
     let f = word.fields();
-    if is_local(word, &f) {
+    if f.is_local() {
         do_local(p, program, &f)
     } else {
         shared.exec(q, p, word)

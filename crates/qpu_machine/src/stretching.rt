@@ -5,7 +5,7 @@ ghost use Rattle.qpu_machine.specs.Local.{LocalSteps, TookLocal, is_local_next};
 
 use crate::stepping::do_local;
 use qpu_hazard::Checked;
-use qpu_local::{Halt, Processor, is_local};
+use qpu_local::{Halt, Processor};
 use qpu_word::Program;
 
 /// Does the local word at the place of a processor, where it has a local step under a limit. Else
@@ -23,7 +23,7 @@ fn step_alone(processor: &mut Processor, program: &Checked, limit: u32) -> bool
         unreachable!()
     };
     let f = word.fields();
-    if !is_local(word, &f) {
+    if !f.is_local() {
         return false;
     }
     do_local(processor, program, &f);

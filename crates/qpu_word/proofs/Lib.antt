@@ -20,3 +20,4 @@ pub mod SameMeaning
 pub mod AlikeUnits
 pub mod AlikePlain
 pub mod MeaningLaw
+pub mod ShortLemmas

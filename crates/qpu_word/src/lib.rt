@@ -6,6 +6,7 @@
 #![tactic(auto)]
 
 mod activity;
+mod alone;
 mod book;
 mod byte;
 mod canonical;

@@ -3,6 +3,7 @@ ghost use Rattle.std.specs.Prelude.{⊤, ◌≡◌, ◌↔◌, ◌<◌, ◌≤�
 ghost use Rattle.qpu_word.specs.Words.{fields_of, is_local};
 ghost use Rattle.qpu_word.specs.Needs.{bit, read_needs, write_needs, needs_of};
 
+use crate::alone::is_alone;
 use crate::code::{
     READ_DMA_BUSY, READ_DMA_WAIT, READ_MUTEX, READ_UNIFORM, READ_VPM, WRITE_DMA_ADDRESS,
     WRITE_MUTEX, WRITE_TMU0_S, WRITE_TMU1_S, WRITE_VPM,
@@ -111,22 +112,39 @@ impl Fields {
     }
 }
 
+impl Fields {
+    /// The shared things that the word touches.
+    #[tactic(auto, unfolding(crate::specs::Needs::needs_of), using(crate::proofs::NeedLemmas::empty_where_local))]
+    pub(crate) fn needs(&self) -> Needs
+        ensures needs { result.0 ≡ needs_of self.now }
+        ensures local { (result.0 ≡ 0) ↔ IsTrue (is_local self.now) }
+    {
+        Needs(self.read_needs() + self.write_needs())
+    }
+
+    /// Whether the word touches its processor alone. Nearly every local word is told by a few tests,
+    /// and only the others by all that a word can touch.
+    pub fn is_local(&self) -> bool
+        ensures { result ≡ is_local self.now }
+    {
+        is_alone(self) || self.needs().0 == 0
+    }
+}
+
 impl Word {
     /// The shared things that the word touches: a bit is in the set exactly where the word touches
     /// its thing, and the set is empty exactly where the word is local.
-    #[tactic(auto, unfolding(crate::specs::Needs::needs_of), using(crate::proofs::NeedLemmas::empty_where_local))]
     pub fn needs(self) -> Needs
         ensures needs { result.0 ≡ needs_of (fields_of self.0) }
         ensures local { (result.0 ≡ 0) ↔ IsTrue (is_local (fields_of self.0)) }
     {
-        let f = self.fields();
-        Needs(f.read_needs() + f.write_needs())
+        self.fields().needs()
     }
 
     /// Whether the word touches its processor alone.
     pub fn is_local(self) -> bool
         ensures { result ≡ is_local (fields_of self.0) }
     {
-        self.needs().0 == 0
+        self.fields().is_local()
     }
 }

@@ -32,7 +32,9 @@ pub trait Port {
         requires straight { is_branch (fields_of word.0) ≡ false }
         ensures { result ≡ outs_of (fields_of word.0) (state self.now) ins.now };
 
-    /// Does the whole instruction, with what it reads and the book that it leaves.
+    /// Does the whole instruction, with what it reads and the book that it leaves. The setups of the book
+    /// are sound: a book is made of public fields, so that it has no such fact of its own, and each call of
+    /// `Book` keeps it.
     fn accept(&mut self, word: Word, ins: &Ins, book: &Book)
         requires going { (state self.old).halt ≡ Going }
         requires executed { (state self.old).executed < 1000000 }

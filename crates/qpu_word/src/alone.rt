@@ -1,9 +1,9 @@
 //! Whether a word touches its processor alone.
 ghost use Rattle.std.specs.Prelude.{◌≡◌, ◌≤◌, ℕ, false, IsTrue};
-ghost use Rattle.qpu_word.specs.Words.{fields_of, is_local, reads, writes};
+ghost use Rattle.qpu_word.specs.Words.{is_local, reads, writes};
 
-use qpu_word::code::{NOWHERE, READ_NUMBER, READ_UNIFORM, READ_VPM, ROWS, WRITE_VPM};
-use qpu_word::{Fields, Word};
+use crate::code::{NOWHERE, READ_NUMBER, READ_UNIFORM, READ_VPM, ROWS, WRITE_VPM};
+use crate::word::Fields;
 
 /// Whether a read address gives what the processor itself has.
 fn is_inside(address: u32) -> bool
@@ -22,7 +22,7 @@ fn reads_inside(f: &Fields) -> bool
 }
 
 /// Whether a word has no write address of the shared parts.
-#[tactic(auto, using(crate::proofs::AloneLemmas::unwritten))]
+#[tactic(auto, using(crate::proofs::ShortLemmas::unwritten))]
 fn writes_inside(f: &Fields) -> bool
     ensures { IsTrue result → (n : ℕ) → WRITE_VPM ≤ n → writes f.now n ≡ false }
 {
@@ -31,18 +31,9 @@ fn writes_inside(f: &Fields) -> bool
 
 /// Whether a word surely is local: it has no address of the shared parts, takes no look-up and
 /// counts no semaphore. Of a word that isn't so this says nothing.
-#[tactic(auto, using(crate::proofs::AloneLemmas::local_by))]
-fn is_alone(f: &Fields) -> bool
+#[tactic(auto, using(crate::proofs::ShortLemmas::local_by))]
+pub(crate) fn is_alone(f: &Fields) -> bool
     ensures { IsTrue result → IsTrue (is_local f.now) }
 {
     writes_inside(f) && !f.has_tmu_load() && !f.is_semaphore() && reads_inside(f)
-}
-
-/// Whether a word, whose fields these are, is local. Nearly every local word is told by a few tests
-/// of its fields, and only the others by all that a word can touch.
-pub fn is_local(word: Word, f: &Fields) -> bool
-    requires { f.now ≡ fields_of word.0 }
-    ensures { result ≡ is_local f.now }
-{
-    is_alone(f) || word.is_local()
 }
