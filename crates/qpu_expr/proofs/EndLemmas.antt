@@ -26,7 +26,7 @@ use Rattle.qpu_expr.specs.Macros.{Macros, is_comma, names_of, arguments_of, line
 use Rattle.qpu_expr.specs.StageParts.{Stage}
 use Rattle.qpu_expr.specs.Findings.{place_in, left_deed, is_whole}
 use Rattle.qpu_expr.specs.Directives.{set_to, set_deed, repeat_deed, defined, macro_deed}
-use Rattle.qpu_expr.specs.Calls.{call_deed, instruction_deed, called, text_deed}
+use Rattle.qpu_expr.specs.Calls.{call_deed, instruction_deed, other_deed, called, text_deed}
 use Rattle.qpu_expr.specs.Deeds.{left_tokens, deed_by}
 use Rattle.qpu_expr.specs.Ended.{IsEnded}
 use Rattle.qpu_expr.proofs.KeepLemmas.{Runs}
@@ -156,6 +156,10 @@ instruction_ends : (text : List ℕ) (sets : Sets) (end : Token) (line : List To
 unfolding instruction_deed
 instruction_ends text sets end line e = record { act = tt; change = with_end (instruction_work text sets line).tokens end e }
 
+other_ends : (text : List ℕ) (sets : Sets) (end : Token) (left line : List Token) → end.kind ≡ kind.LineEnd → DeedEnds (other_deed text sets end left line)
+unfolding other_deed
+other_ends text sets end left line e = record { act = tt; change = with_end left end e }
+
 text_ends : (text : List ℕ) (s : Stage) (deepest : Bool) (end : Token) (line : List Token) → end.kind ≡ kind.LineEnd → All BodyEnds s.macros → DeedEnds (text_deed text s deepest end line)
 unfolding text_deed
 text_ends text s deepest end line e all = by_macro (called text s.macros line) refl (called_ends text s.macros line all)
@@ -170,5 +174,6 @@ deed_ends text s deepest end whole line behind head.Set e all macros = set_ends 
 deed_ends text s deepest end whole line behind (head.Opens Repeat) e all macros = repeat_ends text s.sets deepest end line behind
 deed_ends text s deepest end whole line behind (head.Opens Macro) e all macros = macro_ends text s.macros end line behind all
 deed_ends text s deepest end whole line behind (head.Closes pair) e all macros = record { act = tt; change = tt }
-deed_ends text s deepest end whole line behind head.Other e all macros = left_ends end (left_tokens text whole line) e
+deed_ends text s deepest end whole line behind head.Word e all macros = left_ends end line e
+deed_ends text s deepest end whole line behind head.Other e all macros = other_ends text s.sets end (left_tokens text whole line) line e
 deed_ends text s deepest end whole line behind head.Instruction e all macros = text_ends text s deepest end line e macros

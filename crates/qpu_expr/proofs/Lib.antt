@@ -15,3 +15,8 @@ pub mod FewLemmas
 pub mod EndLemmas
 pub mod StageEndLemmas
 pub mod EndedLemmas
+pub mod FormLemmas
+pub mod ScanLemmas
+pub mod HeadingLemmas
+pub mod WalkLemmas
+pub mod WalkedLemmas

@@ -38,6 +38,18 @@ worked_deed end w = record {
 unfoldable pub instruction_deed : List ℕ → Sets → Token → List Token → Deed
 instruction_deed text sets end line = worked_deed end (instruction_work text sets line)
 
+-- a line whose directive is none or whose label isn't due: its tokens are left, and its parts are judged
+
+abbrev pub judged_deed : Token → List Token → Worked → Deed
+judged_deed end left w = record {
+  findings = record no_findings { unknown = w.unknown; zero = w.zero };
+  change = change.Leaves (left ++ end ∷ []);
+  act = act.Nothing;
+}
+
+unfoldable pub other_deed : List ℕ → Sets → Token → List Token → List Token → Deed
+other_deed text sets end left line = judged_deed end left (instruction_work text sets line)
+
 -- the macro that a line calls
 abbrev pub called : List ℕ → Macros → List Token → Option MacroTokens
 called text macros [] = None

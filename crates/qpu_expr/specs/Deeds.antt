@@ -21,7 +21,7 @@ use Rattle.qpu_expr.specs.StageParts.{Stage}
 use Rattle.qpu_expr.specs.Stage.{too_long, tokens_counted, labelled, leaves, changed, label_twice}
 use Rattle.qpu_expr.specs.Findings.{no_findings, left_deed}
 use Rattle.qpu_expr.specs.Directives.{set_deed, repeat_deed, macro_deed, stray_deed}
-use Rattle.qpu_expr.specs.Calls.{text_deed}
+use Rattle.qpu_expr.specs.Calls.{other_deed, text_deed}
 
 -- a line that is left as it is, behind its label. A second label isn't due: its line is left with the
 -- first one, so that the token that isn't due can be told
@@ -36,7 +36,8 @@ deed_by text s deepest end whole line behind head.Set = set_deed text s.sets end
 deed_by text s deepest end whole line behind (head.Opens Repeat) = repeat_deed text s.sets deepest end line behind
 deed_by text s deepest end whole line behind (head.Opens Macro) = macro_deed text s.macros end line behind
 deed_by text s deepest end whole line behind (head.Closes pair) = stray_deed end line
-deed_by text s deepest end whole line behind head.Other = left_deed end (left_tokens text whole line)
+deed_by text s deepest end whole line behind head.Word = left_deed end line
+deed_by text s deepest end whole line behind head.Other = other_deed text s.sets end (left_tokens text whole line) line
 deed_by text s deepest end whole line behind head.Instruction = text_deed text s deepest end line
 
 infixl 10 ◌or◌

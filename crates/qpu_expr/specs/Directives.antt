@@ -81,8 +81,8 @@ defined [] body = change.Nothing
 defined (name ∷ parameters) body = change.Defines (record { name = name; parameters = parameters; body = body })
 
 abbrev pub macro_by : Place → Option Place → Option Place → Option ℕ → Findings
-macro_by dot fault twice None = record { unknown = None; twice = if is_some fault then None else twice; deep = None; zero = None; shape = Some dot; range = None }
-macro_by dot fault twice (Some n) = record { unknown = None; twice = if is_some fault then None else twice; deep = None; zero = None; shape = fault; range = None }
+macro_by dot fault twice None = record { unknown = None; twice = twice; deep = None; zero = None; shape = Some dot; range = None }
+macro_by dot fault twice (Some n) = record { unknown = None; twice = twice; deep = None; zero = None; shape = fault; range = None }
 
 unfoldable pub macro_deed : List ℕ → Macros → Token → List Token → List LineTokens → Deed
 macro_deed text macros end line behind =

@@ -14,10 +14,15 @@ pub mod Pieces
 pub mod StageParts
 pub mod Stage
 pub mod Room
+pub mod Forms
+pub mod Scans
 pub mod Findings
+pub mod Headings
+pub mod Walks
 pub mod Directives
 pub mod Calls
 pub mod Deeds
+pub mod Tolds
 pub mod Leads
 pub mod Expansion
 pub mod Nesting

@@ -78,6 +78,7 @@ word_head word =
     else if is_text word (codes "endr") then head.Closes Repeat
     else if is_text word (codes "macro") then head.Opens Macro
     else if is_text word (codes "endm") then head.Closes Macro
+    else if is_text word (codes "word") then head.Word
     else head.Other
 
 abbrev pub directive : List ℕ → List Token → Head

@@ -1,8 +1,10 @@
 //! What calls of macros and instructions do by themselves.
-ghost use Rattle.std.specs.Prelude.{◌≡◌, drop, IfOk, option_copied};
-ghost use Rattle.qpu_expr.specs.Calls.{call_deed, worked_deed, instruction_deed, called, text_deed};
+ghost use Rattle.std.specs.Prelude.{◌≡◌, IfOk, option_copied};
+ghost use Rattle.qpu_expr.specs.Calls.{call_deed, worked_deed, instruction_deed, judged_deed, other_deed, called, text_deed};
 
-use crate::deed::{Act, Body, Deed, Findings, NO_FINDINGS, place_in, when};
+use crate::deed::{
+    Act, Body, Deed, Findings, NO_FINDINGS, behind_first, place_in, plain_line, when,
+};
 use crate::expanded::PlainLine;
 use crate::macros::{Macro, body_replaced, call_of};
 use crate::operand::{Work, instruction, is_name};
@@ -11,16 +13,6 @@ use crate::symbol::text_of;
 use crate::table::Table;
 use qpu_token::Token;
 use std::alloc::{AllocError, Global};
-
-/// The tokens behind the first.
-fn behind_first(line: &[Token]) -> &[Token]
-    ensures { result.now ≡ drop 1 line.now }
-{
-    match line {
-        [_, rest @ ..] => rest,
-        [] => &[],
-    }
-}
 
 /// What the call of a macro does.
 #[tactic(auto, unfolding(crate::specs::Calls::call_deed))]
@@ -78,6 +70,38 @@ fn instruction_deed(
 {
     let work = instruction(alloc, text, sets, line)?;
     worked_deed(end, work)
+}
+
+/// What a line does of which other tokens are left than were worked out.
+fn judged_deed(alloc: Global, end: Token, left: &[Token], work: Work) -> Result<Deed, AllocError>
+    ensures { IfOk result (λ deed. deed ≡ judged_deed end left.now work) }
+{
+    let plain = plain_line(alloc, left, end)?;
+    Ok(Deed {
+        findings: Findings {
+            unknown: work.unknown,
+            zero: work.zero,
+            ..NO_FINDINGS
+        },
+        change: Change::Leaves(plain),
+        act: Act::Nothing,
+    })
+}
+
+/// What a line does whose directive is none, or whose label isn't due.
+#[tactic(auto, unfolding(crate::specs::Calls::other_deed))]
+pub(crate) fn other_deed(
+    alloc: Global,
+    text: &[u8],
+    sets: &Table<u32>,
+    end: Token,
+    left: &[Token],
+    line: &[Token],
+) -> Result<Deed, AllocError>
+    ensures { IfOk result (λ deed. deed ≡ other_deed text.now sets.now end left.now line.now) }
+{
+    let work = instruction(alloc, text, sets, line)?;
+    judged_deed(alloc, end, left, work)
 }
 
 /// The macro that a line calls.

@@ -105,6 +105,16 @@ pub(crate) fn when(holds: bool, place: Place) -> Option<Place>
     if holds { Some(place) } else { None }
 }
 
+/// The tokens behind the first.
+pub(crate) fn behind_first(line: &[Token]) -> &[Token]
+    ensures { result.now ≡ drop 1 line.now }
+{
+    match line {
+        [_, rest @ ..] => rest,
+        [] => &[],
+    }
+}
+
 /// The tokens behind a directive's word.
 pub(crate) fn behind_word(line: &[Token]) -> &[Token]
     ensures { result.now ≡ drop 2 line.now }

@@ -206,7 +206,6 @@ fn macro_by(dot: Place, fault: Option<Place>, twice: Option<Place>, body: Option
     ensures { result ≡ macro_by dot fault twice body }
 {
     let shape = if body.is_none() { Some(dot) } else { fault };
-    let twice = if fault.is_some() { None } else { twice };
     Findings {
         twice,
         shape,

@@ -2,24 +2,20 @@
 ghost use Rattle.std.specs.Prelude.{◌≡◌, ◌<◌, List, ℕ, Option, Some, length, take, is_some, IfOk};
 ghost use Rattle.qpu_token.specs.declared.fault.AsmFault.{AsmFault};
 ghost use Rattle.qpu_expr.specs.declared.limits.TheConstants.{MOST_TOKENS};
-ghost use Rattle.qpu_expr.specs.declared.stop.Stop.TheVariants.{Fault};
 ghost use Rattle.qpu_expr.specs.LineTokens.{LineTokens};
-ghost use Rattle.qpu_expr.specs.Findings.{no_findings, place_when, place_in};
-ghost use Rattle.qpu_expr.specs.Calls.{called};
 ghost use Rattle.qpu_expr.specs.Stage.{too_long, label_twice};
-ghost use Rattle.qpu_expr.specs.Leads.{Led, StopsBy};
+ghost use Rattle.qpu_expr.specs.Leads.{Led};
 ghost use Rattle.qpu_expr.specs.Lines.{behind_label, head_of, label_of};
 ghost use Rattle.qpu_expr.specs.Deeds.{left_tokens, deed_by, fault_in, least_fault, done_by, line_does, closing_deed, closes};
 
-use crate::call::{called, text_deed};
-use crate::deed::{
-    Act, Deed, Findings, NO_FINDINGS, behind_word, left_deed, place_in, stray_deed, when,
-};
+use crate::call::{other_deed, text_deed};
+use crate::deed::{Act, Deed, Findings, NO_FINDINGS, behind_word, left_deed, stray_deed};
 use crate::directive::{macro_deed, repeat_deed, set_deed};
 use crate::line::{BodyLine, Head, Line, Pair, behind_label, head_of, is_colon, label_of};
 use crate::place::{Place, fault_at, place_of};
 use crate::state::{Change, State};
 use crate::stop::Stop;
+use crate::told::{NOTHING_TOLD, Told, told_of};
 use qpu_token::{AsmFault, AsmKind, Token};
 use std::alloc::{AllocError, Global};
 
@@ -65,7 +61,15 @@ fn deed_of(
         ),
         Head::Opens(Pair::Macro) => macro_deed(alloc, text, state.macros(), end, line, behind),
         Head::Closes(_) => Ok(stray_deed(end, line)),
-        Head::Other => left_deed(alloc, end, left_tokens(text, whole, line)),
+        Head::Word => left_deed(alloc, end, line),
+        Head::Other => other_deed(
+            alloc,
+            text,
+            state.sets(),
+            end,
+            left_tokens(text, whole, line),
+            line,
+        ),
         Head::Instruction => text_deed(alloc, text, state, deepest, end, line),
     }
 }
@@ -115,53 +119,47 @@ fn do_deed(
     Ok(deed.act)
 }
 
-/// The fault of a line that passes the limit of tokens, where none but that of its depth comes before.
-fn stop_long(text: &[u8], first: &Line, state: &State, word: bool, deep: Option<Place>) -> Stop
-    ensures { (fault : AsmFault) → result ≡ Fault fault → least_fault (label_twice text.now state.now.labels (label_of text.now first.now.tokens)) (too_long state.now first.now word) (record no_findings { deep = deep }) ≡ Some fault }
+/// The fault of a line with more tokens than a text may reach, by its first tokens and what it finds.
+fn long_fault(text: &[u8], state: &State, first: &Line, told: Told) -> AsmFault
+    requires { MOST_TOKENS < length first.now.tokens }
+    ensures { least_fault (label_twice text.now state.now.labels (label_of text.now first.now.tokens)) (too_long state.now first.now told.word) told.findings ≡ Some result }
 {
     let label = state.label_twice(text, label_of(text, &first.tokens));
-    let findings = Findings {
-        deep,
-        ..NO_FINDINGS
-    };
-    match least_fault(label, state.too_long(first, word), findings) {
-        Some(fault) => Stop::Fault(fault),
-        None => Stop::Memory,
+    let long = state.too_long(first, told.word);
+    match least_fault(label, long, told.findings) {
+        Some(fault) => fault,
+        None => unreachable!(),
     }
 }
 
-/// Whether a line calls a macro.
-fn calls(text: &[u8], state: &State, line: &[Token]) -> bool
-    ensures { result ≡ is_some (called text.now state.now.macros line.now) }
+/// The fault of a line with more tokens than a text may reach, of which no more are held.
+fn long_line(
+    alloc: Global,
+    text: &[u8],
+    state: &State,
+    deepest: bool,
+    line: &BodyLine,
+) -> Result<AsmFault, AllocError>
+    requires { MOST_TOKENS < length line.now.tokens }
+    ensures { IfOk result (λ fault. (behind : List LineTokens) → line_does text.now deepest line.now behind state.now ≡ Err fault) }
 {
-    called(text, state.macros(), line).is_some()
+    let first = line.first(alloc)?;
+    let told = told_of(alloc, text, state, deepest, &first, line)?;
+    Ok(long_fault(text, state, &first, told))
 }
 
-/// The place of a call that is nested too deep.
-fn call_deep(deepest: bool, end: Token, line: &[Token]) -> Option<Place>
-    ensures { result ≡ place_when deepest (place_in end line.now) }
+/// The fault of a line with more tokens than a text may reach that closes a body.
+fn long_close(
+    alloc: Global,
+    text: &[u8],
+    state: &State,
+    line: &BodyLine,
+) -> Result<AsmFault, AllocError>
+    requires { MOST_TOKENS < length line.now.tokens }
+    ensures { IfOk result (λ fault. closes text.now line.now state.now ≡ Err fault) }
 {
-    when(deepest, place_in(end, line))
-}
-
-/// Why a line with more tokens than are held stops the expansion, where the first of them tell it.
-fn long_line(text: &[u8], state: &State, deepest: bool, first: &Line) -> Stop
-    ensures { (line : LineTokens) (behind : List LineTokens) (n : ℕ) → first.now ≡ record { tokens = take n line.tokens; end = line.end } → MOST_TOKENS < n → MOST_TOKENS < length line.tokens → StopsBy (line_does text.now deepest line behind state.now) result }
-{
-    let tokens = behind_label(text, &first.tokens);
-    match head_of(text, tokens) {
-        Head::Other => stop_long(text, first, state, true, None),
-        Head::Closes(_) => stop_long(text, first, state, false, None),
-        Head::Instruction => {
-            if calls(text, state, tokens) {
-                let deep = call_deep(deepest, first.end, tokens);
-                stop_long(text, first, state, false, deep)
-            } else {
-                Stop::Memory
-            }
-        }
-        Head::Nothing | Head::Set | Head::Opens(_) => Stop::Memory,
-    }
+    let first = line.first(alloc)?;
+    Ok(long_fault(text, state, &first, NOTHING_TOLD))
 }
 
 /// Does what a line does by itself.
@@ -177,8 +175,7 @@ pub(crate) fn take_line(
     ensures { Led (line_does text.now deepest line.now behind.now state.old) state.new result }
 {
     let Some(whole) = line.whole(alloc)? else {
-        let first = line.first(alloc)?;
-        return Err(long_line(text, state, deepest, &first));
+        return Err(Stop::Fault(long_line(alloc, text, state, deepest, line)?));
     };
     let deed = deed_of(alloc, text, state, deepest, &whole, behind)?;
     do_deed(alloc, text, &whole, deed, state)
@@ -213,7 +210,7 @@ pub(crate) fn close_line(
     ensures { Led (closes text.now line.now state.old) state.new result }
 {
     let Some(whole) = line.whole(alloc)? else {
-        return Err(Stop::Memory);
+        return Err(Stop::Fault(long_close(alloc, text, state, line)?));
     };
     let deed = closing_deed(behind_label(text, &whole.tokens));
     do_deed(alloc, text, &whole, deed, state)

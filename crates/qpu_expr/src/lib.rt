@@ -10,10 +10,9 @@
 //! What a plain line means isn't told here, and its mnemonics aren't known: all pieces of a part that
 //! look like an expression are worked out, whatever the part begins with. The body of a macro is
 //! copied at each call, also lines of it that a repeat of no turns then leaves out; its arguments are
-//! shared by the copies, and put in only where a line is reached. Of a line with more than four times the
-//! tokens that a text may reach only the first tokens are held: they tell the fault of a call, of a
-//! directive that isn't known and of an end that closes nothing; any other is answered with want of
-//! memory, since it isn't judged.
+//! shared by the copies, and put in only where a line is reached. Of a line with more tokens than a text
+//! may reach only the first ones are held; what the others tell of its fault is read token by token
+//! (`told`, `walk`).
 #![tactic(auto)]
 
 mod call;
@@ -22,6 +21,8 @@ mod directive;
 mod expanded;
 mod expansion;
 mod expression;
+mod form;
+mod heading;
 mod judge;
 mod laws;
 mod limits;
@@ -32,11 +33,14 @@ mod operator;
 mod piece;
 mod place;
 mod register;
+mod scan;
 mod setting;
 mod state;
 mod stop;
 mod symbol;
 mod table;
+mod told;
+mod walk;
 mod whole;
 
 pub use expanded::{Expanded, LabelAt, PlainLine};

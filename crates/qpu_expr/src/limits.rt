@@ -6,9 +6,6 @@ pub(crate) const MOST_LINES: u32 = 65_536;
 /// Tokens of the lines that are reached, without line ends.
 pub(crate) const MOST_TOKENS: usize = 1_048_576;
 
-/// Tokens of one line that are held at once. This project's own.
-pub(crate) const MOST_HELD: usize = 4 * MOST_TOKENS;
-
 /// The most words that a text gives, and so the most lines that are left of it. This project's own.
 pub const MOST_WORDS: u32 = 4_096;
 

@@ -3,7 +3,7 @@ ghost use Rattle.std.specs.Prelude.{◌≡◌, ◌≤◌, ◌++◌, ◌∷◌, [
 ghost use Rattle.qpu_expr.specs.declared.limits.TheConstants.{MOST_TOKENS};
 ghost use Rattle.qpu_expr.specs.Lines.{column_behind, moved_to, Lining, no_line, lined, lines_of, is_colon, label_of, behind_label, word_head, directive, head_of, nesting_of, nested, body_length};
 
-use crate::limits::{MOST_HELD, MOST_TOKENS};
+use crate::limits::MOST_TOKENS;
 use crate::operand::{is_dot, is_name};
 use crate::piece::{Piece, read_front, share_all};
 use crate::register::is_text;
@@ -82,13 +82,13 @@ impl BodyLine {
         })
     }
 
-    /// The line with its tokens; none where they are more than are held at once.
+    /// The line with its tokens; none where they are more than a text may reach.
     pub(crate) fn whole(&self, alloc: Global) -> Result<Option<Line>, AllocError>
         ensures { IfOk result (λ whole. MatchOption whole (MOST_TOKENS < length self.now.tokens) (λ line. line ≡ self.now)) }
     {
         let mut tokens = Vec::new(alloc);
-        self.read_front(MOST_HELD + 1, &mut tokens)?;
-        if tokens.len() > MOST_HELD {
+        self.read_front(MOST_TOKENS + 1, &mut tokens)?;
+        if tokens.len() > MOST_TOKENS {
             return Ok(None);
         }
         Ok(Some(Line {
@@ -118,6 +118,8 @@ pub(crate) enum Head {
     Opens(Pair),
     /// `.endr` or `.endm`.
     Closes(Pair),
+    /// `.word`.
+    Word,
     /// Another sign `.`, or a sign `:`.
     Other,
     /// Anything else: an instruction, or the call of a macro.
@@ -269,6 +271,8 @@ fn word_head(word: &[u8]) -> Head
         Head::Opens(Pair::Macro)
     } else if is_text(word, b"endm") {
         Head::Closes(Pair::Macro)
+    } else if is_text(word, b"word") {
+        Head::Word
     } else {
         Head::Other
     }

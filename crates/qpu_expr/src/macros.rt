@@ -4,8 +4,10 @@ ghost use Rattle.std.specs.List.{list_any, flat_map};
 ghost use Rattle.std.specs.Option.{option_or};
 ghost use Rattle.qpu_expr.specs.Symbols.{is_named};
 ghost use Rattle.qpu_expr.specs.Pieces.{joined};
+ghost use Rattle.qpu_expr.specs.Headings.{name_twice};
 ghost use Rattle.qpu_expr.specs.Macros.{is_comma, Names, no_name, named_on, names_of, heading_fault, repeated_in, Arguments, no_argument, empty_place, argued, arguments_read, arguments_of, argument_fault, argument_for, replaced, line_replaced, body_replaced};
 
+use crate::deed::{behind_first, when};
 use crate::line::BodyLine;
 use crate::operand::is_name;
 use crate::piece::{Argument, Piece};
@@ -60,7 +62,7 @@ impl Model for NameList {
 
 impl NameList {
     /// Nothing is read yet.
-    fn new(alloc: Global) -> NameList
+    pub(crate) fn new(alloc: Global) -> NameList
         ensures { result ≡ no_name }
     {
         NameList {
@@ -86,7 +88,7 @@ impl NameList {
     }
 
     /// Reads one token more.
-    fn read(&mut self, text: &[u8], token: Token) -> Result<(), AllocError>
+    pub(crate) fn read(&mut self, text: &[u8], token: Token) -> Result<(), AllocError>
         ensures { OnOk result (self.new ≡ named_on text.now self.old token) }
     {
         if self.fault.is_some() {
@@ -101,6 +103,17 @@ impl NameList {
             self.fault = Some(place_of(token));
         }
         Ok(())
+    }
+
+    /// The place of a token that is read next, where it is a parameter that is there already.
+    pub(crate) fn twice(&self, text: &[u8], token: Token) -> Option<Place>
+        ensures { result ≡ name_twice text.now self.now token }
+    {
+        if !self.due || self.fault.is_some() || !is_name(text, token) {
+            return None;
+        }
+        let there = has_name(text, behind_first(&self.names), text_of(text, token));
+        when(there, place_of(token))
     }
 
     /// The place of the first token that isn't due, or of the line's end.

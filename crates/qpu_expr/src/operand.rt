@@ -68,7 +68,7 @@ pub(crate) fn is_dot(text: &[u8], token: Token) -> bool
 }
 
 /// What a token separates.
-fn separates(symbol: Symbol) -> Option<Between>
+pub(crate) fn separates(symbol: Symbol) -> Option<Between>
     ensures { result ≡ separates symbol }
 {
     match symbol {
@@ -89,7 +89,7 @@ fn begins_with_name(text: &[u8], tokens: &[Token]) -> bool
 }
 
 /// Whether two tokens are a suffix.
-fn is_suffix(text: &[u8], dot: Token, name: Token) -> bool
+pub(crate) fn is_suffix(text: &[u8], dot: Token, name: Token) -> bool
     ensures { result ≡ (is_dot text.now dot && is_name text.now name) }
 {
     is_dot(text, dot) && is_name(text, name)

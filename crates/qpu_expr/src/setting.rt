@@ -54,7 +54,7 @@ fn what_is(text: &[u8], sets: &Table<u32>, token: Token, symbol: Symbol) -> What
 
 /// A token as an item of an expression.
 #[tactic(auto, unfolding(crate::specs::Settings::item_of))]
-fn item_of(text: &[u8], sets: &Table<u32>, token: Token) -> Item
+pub(crate) fn item_of(text: &[u8], sets: &Table<u32>, token: Token) -> Item
     ensures { result ≡ item_of text.now sets.now token }
 {
     Item {
@@ -65,7 +65,7 @@ fn item_of(text: &[u8], sets: &Table<u32>, token: Token) -> Item
 
 /// Whether a token is a name that isn't set.
 #[tactic(auto, unfolding(crate::specs::Settings::is_unknown))]
-fn is_unknown(text: &[u8], sets: &Table<u32>, token: Token) -> bool
+pub(crate) fn is_unknown(text: &[u8], sets: &Table<u32>, token: Token) -> bool
     ensures { result ≡ is_unknown text.now sets.now token }
 {
     match symbol_of(text, token) {

@@ -117,6 +117,39 @@ fn more_shapes(rt: HostRuntime) -> Result<(), Fail> {
     Ok(())
 }
 
+/// What can't stand where it does is told also where something is missing further on.
+#[test]
+fn places_are_judged_from_the_left(rt: HostRuntime) -> Result<(), Fail> {
+    for (text, kind, line, column) in [
+        ("brr :x", AsmKind::Shape, 1, 5),
+        ("sub 2+3", AsmKind::Shape, 1, 5),
+        ("or r0, :5, r0", AsmKind::Shape, 1, 8),
+        ("brr -, :5", AsmKind::Shape, 1, 9),
+        ("ldi r0, 5; also -", AsmKind::Operands, 1, 17),
+        ("brr -, 0; link -", AsmKind::Operands, 1, 16),
+    ] {
+        assert!(rt; has_fault(rt.alloc(), text, kind, line, column), "{text}");
+    }
+    Ok(())
+}
+
+/// Unknown directives, labels that aren't due, and malformed headings of macros.
+#[test]
+fn malformed_lines_are_judged(rt: HostRuntime) -> Result<(), Fail> {
+    for (text, kind, line, column) in [
+        (".foo; add r0, r0, 1/0", AsmKind::DivideByZero, 1, 20),
+        (":a :b add r0, r0, 1/0", AsmKind::Shape, 1, 4),
+        (":a :b; add r0, r0, 1/0", AsmKind::DivideByZero, 1, 21),
+        (".macro t, d, d x\n.endm", AsmKind::Twice, 1, 14),
+        (".macro t, d, d x", AsmKind::Twice, 1, 14),
+        (".macro m\n.endm\n.macro m 5\n.endm", AsmKind::Twice, 3, 8),
+        (".macro 5, d, d x\n.endm", AsmKind::Shape, 1, 8),
+    ] {
+        assert!(rt; has_fault(rt.alloc(), text, kind, line, column), "{text}");
+    }
+    Ok(())
+}
+
 /// Mnemonics that are none, and labels that aren't there.
 #[test]
 fn mnemonics_are_judged(rt: HostRuntime) -> Result<(), Fail> {

@@ -14,6 +14,8 @@ mod assembler_faults;
 #[cfg(test)]
 mod assembler_limits;
 #[cfg(test)]
+mod assembler_long_lines;
+#[cfg(test)]
 mod check_command;
 #[cfg(test)]
 mod cuts;

@@ -43,6 +43,28 @@ fn tokens_have_their_bytes_and_places(rt: HostRuntime) -> Result<(), Fail> {
 }
 
 #[test]
+fn names_directly_behind_numbers_are_tokens(rt: HostRuntime) -> Result<(), Fail> {
+    let Ok(found) = tokens(rt.alloc(), "0xg 12ab 0x1g 0X1 0x") else {
+        return Err(Fail::from("a text with tokens"));
+    };
+    let due = [
+        token(TokenKind::Number(0), 0, 1, 1, 1),
+        token(TokenKind::Name, 1, 3, 1, 2),
+        token(TokenKind::Number(12), 4, 6, 1, 5),
+        token(TokenKind::Name, 6, 8, 1, 7),
+        token(TokenKind::Number(1), 9, 12, 1, 10),
+        token(TokenKind::Name, 12, 13, 1, 13),
+        token(TokenKind::Number(0), 14, 15, 1, 15),
+        token(TokenKind::Name, 15, 17, 1, 16),
+        token(TokenKind::Number(0), 18, 19, 1, 19),
+        token(TokenKind::Name, 19, 20, 1, 20),
+        token(END, 20, 20, 1, 21),
+    ];
+    assert!(rt; found.as_slice() == due.as_slice());
+    Ok(())
+}
+
+#[test]
 fn the_first_fault_of_a_text_is_answered(rt: HostRuntime) -> Result<(), Fail> {
     for (text, kind, line, column) in [
         ("ldi r0, 4294967296", AsmKind::NumberTooLarge, 1, 9),
