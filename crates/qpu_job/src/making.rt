@@ -72,7 +72,7 @@ pub fn make_machine(alloc: Global, job: &Job) -> Result<Machine, JobFault>
     let codes = read_codes(alloc, &job.programs)?;
     let programs = shared(alloc, check_programs(alloc, &codes)?)?;
     let memory = memory_of(alloc, job.words, &job.values)?;
-    Ok(Machine::new(memory, job.limit, programs, starts_of(&job.starts)))
+    Ok(Machine::new(alloc, memory, job.limit, programs, starts_of(&job.starts)))
 }
 
 #[cfg(test)]

@@ -153,4 +153,4 @@ at_limit halt executed limit is = rw (is.0, is.1) (none limit)
     none limit = grind (arith, nat_tests)
 
 pub runs_out : RunsOutAtLimit
-runs_out m q p sound there = (ran_out p.halt p.executed m.limit (started_there m q p sound there).executed, at_limit p.halt p.executed m.limit)
+runs_out m sound q p there = (ran_out p.halt p.executed m.limit (started_there m q p sound there).executed, at_limit p.halt p.executed m.limit)

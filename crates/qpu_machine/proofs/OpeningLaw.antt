@@ -14,9 +14,11 @@ use Rattle.qpu_machine.specs.declared.start.Start.{Start}
 use Rattle.qpu_machine.specs.Machine.{MachineState, processor_of, words_of, with_start, machine_of}
 use Rattle.qpu_machine.specs.Sound.{IsSoundMachine}
 use Rattle.qpu_machine.specs.Trace.{trace_of}
-use Rattle.qpu_machine.specs.Trails.{ComesFrom, IsCleanPath, TracesArePaths}
+use Rattle.qpu_machine.specs.Trails.{ComesFrom, IsCleanPath, TracesAreClean}
 use Rattle.qpu_machine.specs.Bound.{instructions_left, moves_pending, steps_left_of, sum_below, steps_left}
-use Rattle.qpu_machine.specs.Opening.{MayOpen, OpensSound, BoundsSchedules}
+use Rattle.qpu_machine.specs.declared.actor.Actor.{Actor}
+use Rattle.qpu_machine.specs.Schedule.{After}
+use Rattle.qpu_machine.specs.Opening.{MayOpen, OpensSound, BoundsSchedules, TracesArePaths, IsRunFromOpening}
 use Rattle.qpu_machine.proofs.AloneLemmas.{nobody_pending}
 use Rattle.qpu_machine.proofs.OpeningLemmas.{sound_unstarted, sound_started}
 use Rattle.qpu_machine.proofs.StartLemmas.{nobody_there}
@@ -198,3 +200,12 @@ traces_are_paths memory limit programs starts s n may after q p there =
     let m : MachineState = machine_of memory limit programs starts in
     let from : ComesFrom m q [] = record { p = p; there = there; is_path = tt; stands = λ going. opened.stands q p there } in
     subst (IsCleanPath (words_of m q)) (append-nil (reverse (trace_of m s q))) (goes_on_paths q [] opened.sound after from)
+
+-- of the steps of a call
+pub run_from_opening : {m n : MachineState} {s : List Actor} → After m s n → IsRunFromOpening m s
+run_from_opening {m} {n} {s} after memory limit programs starts may is =
+    let from : After (machine_of memory limit programs starts) s n = subst (λ (x : MachineState). After x s n) is after in
+    record {
+      bounded = bounds_schedules memory limit programs starts s n may from;
+      traces = subst (λ (x : MachineState). TracesAreClean x s) (sym is) (traces_are_paths memory limit programs starts s n may from);
+    }

@@ -33,7 +33,10 @@ abbrev pub FinalIsAtRest : Type 0
 FinalIsAtRest = (m : MachineState) → IsSoundMachine m → IsFinal m → IsAtRest m
 
 -- a processor ran out exactly where it neither ended nor faulted and has executed the limit
+abbrev pub RanOutAtLimit : MachineState → Type 0
+RanOutAtLimit m =
+    (q : ℕ) (p : ProcessorState) → processor_of m q ≡ Some p → (has_run_out m.limit (Some p) ≡ true) ↔ ((p.halt ≡ Going) × (p.executed ≡ m.limit))
+
+-- so it is in sound machines
 abbrev pub RunsOutAtLimit : Type 0
-RunsOutAtLimit =
-    (m : MachineState) (q : ℕ) (p : ProcessorState) → IsSoundMachine m → processor_of m q ≡ Some p
-    → (has_run_out m.limit (Some p) ≡ true) ↔ ((p.halt ≡ Going) × (p.executed ≡ m.limit))
+RunsOutAtLimit = (m : MachineState) → IsSoundMachine m → RanOutAtLimit m

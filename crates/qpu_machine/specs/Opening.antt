@@ -1,5 +1,5 @@
--- What a machine before any step is made of, and the most that it can do. This project's own.
-use Rattle.std.specs.Prelude.{◌≢◌, ◌<◌, ◌≤◌, ℕ, ◌*◌, List, All, length, slice_index_or, []}
+-- What a machine before any step is made of, and what holds of each schedule from it. This project's own.
+use Rattle.std.specs.Prelude.{◌≡◌, ◌≢◌, ◌<◌, ◌≤◌, ℕ, ◌*◌, List, All, length, slice_index_or, []}
 use Rattle.std.specs.List.{AllPairs}
 use Rattle.qpu_word.specs.declared.code.TheConstants.{PROCESSORS, LIMIT_MOST}
 use Rattle.qpu_hazard.specs.Paths.{IsClean}
@@ -9,6 +9,7 @@ use Rattle.qpu_machine.specs.Machine.{MachineState, machine_of}
 use Rattle.qpu_machine.specs.Sound.{IsSoundMachine}
 use Rattle.qpu_machine.specs.Schedule.{After}
 use Rattle.qpu_machine.specs.Bound.{instructions_of}
+use Rattle.qpu_machine.specs.Trails.{TracesAreClean}
 
 -- a limit, programs and starts that a machine may open with: the starts are of different processors
 -- and of programs of the list, no path of which breaks a rule
@@ -36,3 +37,21 @@ abbrev pub BoundsSchedules : Type 0
 BoundsSchedules =
     (memory : List ℕ) (limit : ℕ) (programs : List (List ℕ)) (starts : List Start) (s : List Actor) (n : MachineState)
     → MayOpen limit programs starts → After (machine_of memory limit programs starts) s n → IsBounded limit (length starts) s
+
+-- and each of its traces is a path of its program that breaks no rule
+abbrev pub TracesArePaths : Type 0
+TracesArePaths =
+    (memory : List ℕ) (limit : ℕ) (programs : List (List ℕ)) (starts : List Start) (s : List Actor) (n : MachineState)
+    → MayOpen limit programs starts → After (machine_of memory limit programs starts) s n → TracesAreClean (machine_of memory limit programs starts) s
+
+-- steps from a machine before any step, in which so many processors are started under a limit, are
+-- bounded, and each of their traces is such a path
+pub record IsOpeningRun (limit started : ℕ) (m : MachineState) (s : List Actor) : Type 0 where
+  pub bounded : IsBounded limit started s
+  pub traces : TracesAreClean m s
+
+-- the steps of a call are, wherever its machine was one before any step
+abbrev pub IsRunFromOpening : MachineState → List Actor → Type 0
+IsRunFromOpening m s =
+    (memory : List ℕ) (limit : ℕ) (programs : List (List ℕ)) (starts : List Start)
+    → MayOpen limit programs starts → m ≡ machine_of memory limit programs starts → IsOpeningRun limit (length starts) m s

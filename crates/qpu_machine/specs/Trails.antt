@@ -1,15 +1,12 @@
--- Each trace is a path of its program, and breaks no rule. This project's own.
+-- Traces that are paths of their programs and break no rule. This project's own.
 use Rattle.std.specs.Prelude.{◌≡◌, ℕ, List, [], ◌++◌, reverse, Some}
 use Rattle.qpu_word.specs.declared.state.Halt.TheVariants.{Going}
 use Rattle.qpu_word.specs.Processor.{ProcessorState}
 use Rattle.qpu_hazard.specs.Paths.{IsPath, broken}
 use Rattle.qpu_hazard.specs.Standing.{ProcessorStands}
 use Rattle.qpu_machine.specs.declared.actor.Actor.{Actor}
-use Rattle.qpu_machine.specs.declared.start.Start.{Start}
-use Rattle.qpu_machine.specs.Machine.{MachineState, machine_of, processor_of, words_of}
-use Rattle.qpu_machine.specs.Schedule.{After}
+use Rattle.qpu_machine.specs.Machine.{MachineState, processor_of, words_of}
 use Rattle.qpu_machine.specs.Trace.{trace_of}
-use Rattle.qpu_machine.specs.Opening.{MayOpen}
 
 -- a processor of a machine was started and comes from a path of its program, the latest word first:
 -- where it goes on, it stands there
@@ -28,9 +25,6 @@ pub record IsCleanPath (code path : List ℕ) : Type 0 where
 abbrev pub GoesOnPaths : MachineState → List Actor → Type 0
 GoesOnPaths m s = (q : ℕ) (path : List ℕ) → ComesFrom m q path → IsCleanPath (words_of m q) (reverse (trace_of m s q) ++ path)
 
--- from a machine before any step on, the trace of each processor that was started is such a path
-abbrev pub TracesArePaths : Type 0
-TracesArePaths =
-    (memory : List ℕ) (limit : ℕ) (programs : List (List ℕ)) (starts : List Start) (s : List Actor) (n : MachineState) → MayOpen limit programs starts
-    → After (machine_of memory limit programs starts) s n → (q : ℕ) (p : ProcessorState) → processor_of (machine_of memory limit programs starts) q ≡ Some p
-    → IsCleanPath (words_of (machine_of memory limit programs starts) q) (reverse (trace_of (machine_of memory limit programs starts) s q))
+-- the trace that a schedule leaves of each processor that was started is such a path, the latest word first
+abbrev pub TracesAreClean : MachineState → List Actor → Type 0
+TracesAreClean m s = (q : ℕ) (p : ProcessorState) → processor_of m q ≡ Some p → IsCleanPath (words_of m q) (reverse (trace_of m s q))

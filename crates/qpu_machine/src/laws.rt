@@ -1,7 +1,6 @@
 ghost use Rattle.qpu_machine.specs.OneSerial.{HasOneSerialSchedule};
 ghost use Rattle.qpu_machine.specs.Journal.{SpellsMore};
-ghost use Rattle.qpu_machine.specs.Trails.{TracesArePaths};
-ghost use Rattle.qpu_machine.specs.Opening.{OpensSound, BoundsSchedules};
+ghost use Rattle.qpu_machine.specs.Opening.{OpensSound, BoundsSchedules, TracesArePaths};
 ghost use Rattle.qpu_machine.specs.Gains.{SchedulesRun};
 ghost use Rattle.qpu_machine.specs.AtRest.{FinalIsAtRest, RunsOutAtLimit};
 

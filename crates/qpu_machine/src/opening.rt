@@ -27,6 +27,7 @@ impl Machine {
     /// of each processor, at most 1,000,000. The starts are of different processors, each below 12,
     /// and of programs in the list.
     pub fn new(
+        alloc: Global,
         memory: Memory,
         limit: u32,
         programs: Arc<Programs>,
@@ -40,7 +41,7 @@ impl Machine {
         ensures starts { result.starts ≡ starts.items }
         ensures opens { MayOpen limit (arc_value programs).list.items starts.items }
     {
-        let mut machine = Machine::unstarted(memory, limit, programs);
+        let mut machine = Machine::unstarted(alloc, memory, limit, programs);
         let starts = starts.as_slice();
         for i in 0..starts.len() {
             machine.start(starts[i]);
@@ -50,7 +51,7 @@ impl Machine {
 
     /// The same before any processor is started.
     #[tactic(auto, unfolding(crate::specs::Machine::machine_of))]
-    fn unstarted(memory: Memory, limit: u32, programs: Arc<Programs>) -> Machine
+    fn unstarted(alloc: Global, memory: Memory, limit: u32, programs: Arc<Programs>) -> Machine
         requires { limit ≤ 1000000 }
         ensures state { result.state ≡ machine_of memory limit (arc_value programs).list.items [] }
         ensures starts { result.starts ≡ [] }
@@ -61,7 +62,7 @@ impl Machine {
             starts: ArrayVec::new(),
             program_of: [0; PROCESSORS],
             processors: [None; PROCESSORS],
-            shared: Shared::new(memory),
+            shared: Shared::new(alloc, memory),
         }
     }
 
@@ -100,7 +101,7 @@ impl Machine {
     }
 
     /// A further owner of the same programs. The one error is want of memory.
-    pub fn share_programs(&self) -> Result<Arc<Programs>, NoMemory>
+    pub fn share_programs(&self, _alloc: Global) -> Result<Arc<Programs>, NoMemory>
         ensures { IfOk result (λ programs. (arc_value programs).list.items ≡ self.now.state.programs) }
     {
         match Arc::try_clone(&self.programs) {
@@ -115,7 +116,7 @@ impl Machine {
     {
         Ok(Machine {
             limit: self.limit,
-            programs: self.share_programs()?,
+            programs: self.share_programs(alloc)?,
             starts: copy_of(&self.starts),
             program_of: self.program_of,
             processors: copies_of(&self.processors),

@@ -3,12 +3,13 @@ ghost use Rattle.std.specs.Prelude.{◌≡◌, ◌≤◌, ◌<◌, ◌+◌, ◌^
 ghost use Rattle.qpu_machine.specs.Machine.{processor_of, words_of};
 ghost use Rattle.qpu_machine.specs.Schedule.{After};
 ghost use Rattle.qpu_machine.specs.Ending.{IsFinal, ending_of};
-ghost use Rattle.qpu_machine.specs.AtRest.{IsAtRest};
+ghost use Rattle.qpu_machine.specs.AtRest.{IsAtRest, RanOutAtLimit};
 ghost use Rattle.qpu_machine.specs.Journal.{steps_in};
 ghost use Rattle.qpu_machine.specs.Serial.{Tried, InTurn, Turned, tries_of, Stretch, Round, SerialSchedule};
 ghost use Rattle.qpu_machine.specs.Local.{IsOwnAfter, is_local_next};
 ghost use Rattle.qpu_machine.specs.Bound.{steps_left};
 ghost use Rattle.qpu_machine.specs.Gains.{Gained, IsRun};
+ghost use Rattle.qpu_machine.specs.Opening.{IsRunFromOpening};
 
 use crate::actor::Actor;
 use crate::conclusion::Ending;
@@ -139,16 +140,26 @@ impl Machine {
     }
 
     /// Runs in the serial order until nothing can move, and says how the machine has come out. The
-    /// counts of the journal sum to less than 2^63. The one error is want of memory; the room for a
-    /// run is taken before its steps, so the machine is then the one after the steps that the
-    /// journal has gained.
+    /// counts of the journal sum to less than 2^63. No move is then pending, each running processor
+    /// awaits the mutex or a semaphore, and a processor ran out exactly where it neither ended nor
+    /// faulted and has executed the limit. The one error is want of memory; the room for a run is
+    /// taken before its steps, so the machine is then the one after the steps that the journal has
+    /// gained.
+    ///
+    /// Whatever the answer, the steps that the journal has gained are permitted and no more than the
+    /// machine had left, and the words that they execute go on the paths of their programs and break
+    /// no rule. Where the machine was one before any step, they have at most the limit of instructions
+    /// for each processor and three steps for each of these in all, and each trace is a path of its
+    /// program that breaks no rule.
     pub fn run_serial(&mut self, journal: &mut Journal) -> Result<Ending, NoMemory>
         requires { steps_in journal.old < 2 ^ 63 }
         ensures serial { OnOk result (Gained journal.old journal.new (λ s. SerialSchedule self.old.state s self.new.state × IsRun self.old.state s self.new.state)) }
         ensures stands { OnOk result (IsFinal self.new.state) }
         ensures rests { OnOk result (IsAtRest self.new.state) }
+        ensures ran_out { OnOk result (RanOutAtLimit self.new.state) }
         ensures ending { IfOk result (λ ending. ending ≡ ending_of self.new.state) }
         ensures refused { OnErr result (Gained journal.old journal.new (λ s. IsRun self.old.state s self.new.state)) }
+        ensures opening { Gained journal.old journal.new (λ s. IsRunFromOpening self.old.state s) }
         ensures starts { self.new.starts ≡ self.old.starts }
     {
         self.keeps();

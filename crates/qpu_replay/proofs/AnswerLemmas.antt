@@ -1,6 +1,7 @@
--- A replay has one answer.
-use Rattle.std.proofs.Common.{◌≡◌, ◌<◌, ℕ, ◌+◌, ◌-◌, zero, suc, List, [], ◌∷◌, ◌++◌, Option, Some, None, true, replicate, length, refl, ap, sym, subst, ◌∙◌, append_assoc, arith}
+-- A replay has one answer, and took the steps before it.
+use Rattle.std.proofs.Common.{◌≡◌, ◌<◌, ℕ, ◌+◌, ◌-◌, zero, suc, List, [], ◌∷◌, ◌++◌, Option, Some, None, true, replicate, take, length, refl, ap, sym, subst, ◌∙◌, append_assoc, arith}
 use Rattle.std.specs.Prelude.{Result, Ok, Err, is_some}
+use Rattle.std.proofs.Math.Seq.{take-append_seam}
 use Rattle.std.proofs.lemmas.List.{length-append, length-replicate}
 use Rattle.qpu_machine.specs.declared.actor.Actor.{Actor}
 use Rattle.qpu_machine.specs.declared.conclusion.Ending.{Ending}
@@ -12,7 +13,7 @@ use Rattle.qpu_machine.specs.Schedule.{After, here, next}
 use Rattle.qpu_machine.proofs.SerialLemmas.{counted_steps}
 use Rattle.qpu_replay.specs.declared.fault.ReplayFault.{ReplayFault}
 use Rattle.qpu_replay.specs.declared.fault.ReplayFault.TheVariants.{NotEnabled, NotFinished}
-use Rattle.qpu_replay.specs.Replay.{StopsAt, IsComplete, IsUnfinished, Replays}
+use Rattle.qpu_replay.specs.Replay.{StopsAt, IsComplete, IsUnfinished, IsFault, Replays, steps_taken}
 use Rattle.qpu_replay.proofs.RunLemmas.{steps_then}
 
 some_same : (a b : MachineState) → ◌≡◌ {A = Option MachineState} (Some a) (Some b) → a ≡ b
@@ -166,3 +167,24 @@ one_answer (Err (NotEnabled item step)) (Err NotFinished) m n k runs first secon
 one_answer (Err NotFinished) (Ok b) m n k runs first second = absurd (moves_not second.0 first)
 one_answer (Err NotFinished) (Err (NotEnabled item step)) m n k runs first second = absurd (stop_passed second first.after)
 one_answer (Err NotFinished) (Err NotFinished) m n k runs first second = (refl, after_one refl refl first.after second.after)
+
+-- the steps that a replay took
+
+front_taken : {item step : ℕ} {m n : MachineState} {runs : List Run} (at : StopsAt item step m runs n) → take (item - 1) runs ≡ at.front
+front_taken {item} {runs = runs} at =
+    let number = at.number in
+    let long : item - 1 ≡ length at.front = omega (arith, number) in
+    ap (λ (n : ℕ). take n runs) long ∙ ap (λ (xs : List Run). take (length at.front) xs) at.splits ∙ take-append_seam at.front (at.run ∷ at.back)
+
+before_taken : {item step : ℕ} {m n : MachineState} {runs : List Run} (at : StopsAt item step m runs n)
+    → before at ≡ take (steps_in (take (item - 1) runs) + (step - 1)) (steps_of runs)
+before_taken {step = step} {runs = runs} at =
+    let long = count_before at ∙ ap (λ (xs : List Run). steps_in xs + (step - 1)) (sym (front_taken at)) in
+    sym (take-append_seam (before at) (at.run.actor ∷ behind at))
+    ∙ ap (λ (s : List Actor). take (length (before at)) s) (sym (within at))
+    ∙ ap (λ (n : ℕ). take n (steps_of runs)) long
+
+pub fault_taken : (fault : ReplayFault) (m n : MachineState) (runs : List Run) → IsFault fault m runs n → After m (steps_taken (Err fault) runs) n
+unfolding before
+fault_taken (NotEnabled item step) m n runs at = subst (λ (s : List Actor). After m s n) (before_taken at) at.after
+fault_taken NotFinished m n runs part = part.after

@@ -1,10 +1,10 @@
 -- What a replay of runs by a machine comes to. This project's own.
-use Rattle.std.specs.Prelude.{◌≡◌, ◌≤◌, ℕ, ◌+◌, ◌-◌, true, None, Result, Ok, Err, List, ◌∷◌, ◌++◌, length, replicate}
+use Rattle.std.specs.Prelude.{◌≡◌, ◌≤◌, ℕ, ◌+◌, ◌-◌, true, None, Result, Ok, Err, List, ◌∷◌, ◌++◌, length, replicate, take}
 use Rattle.qpu_machine.specs.declared.actor.Actor.{Actor}
 use Rattle.qpu_machine.specs.declared.conclusion.Ending.{Ending}
 use Rattle.qpu_machine.specs.declared.journal.Run.{Run}
 use Rattle.qpu_machine.specs.Ending.{IsFinal, ending_of}
-use Rattle.qpu_machine.specs.Journal.{steps_of}
+use Rattle.qpu_machine.specs.Journal.{steps_of, steps_in}
 use Rattle.qpu_machine.specs.Machine.{MachineState, after_step, is_enabled}
 use Rattle.qpu_machine.specs.Schedule.{After}
 use Rattle.qpu_replay.specs.declared.fault.ReplayFault.{ReplayFault}
@@ -51,3 +51,9 @@ IsFault NotFinished m runs n = IsUnfinished m runs n
 abbrev pub Replays : Result Ending ReplayFault → MachineState → List Run → MachineState → Type 0
 Replays (Ok ending) m runs n = IsComplete m runs n × (ending ≡ ending_of n)
 Replays (Err fault) m runs n = IsFault fault m runs n
+
+-- the steps that a replay took: all, or those before the one that isn't enabled
+abbrev pub steps_taken : Result Ending ReplayFault → List Run → List Actor
+steps_taken (Ok ending) runs = steps_of runs
+steps_taken (Err NotFinished) runs = steps_of runs
+steps_taken (Err (NotEnabled item step)) runs = take (steps_in (take (item - 1) runs) + (step - 1)) (steps_of runs)

@@ -1,12 +1,14 @@
 //! Taking the steps that a journal spells.
 ghost use Rattle.std.specs.Prelude.{◌≡◌, IfErr, IfSome, IsNone, OnOk, Result, replicate};
 ghost use Rattle.qpu_machine.specs.declared.conclusion.Ending.{Ending};
+ghost use Rattle.qpu_machine.specs.AtRest.{IsAtRest, RanOutAtLimit};
 ghost use Rattle.qpu_machine.specs.Gains.{IsRun};
 ghost use Rattle.qpu_machine.specs.Journal.{steps_of};
 ghost use Rattle.qpu_machine.specs.Machine.{MachineState};
+ghost use Rattle.qpu_machine.specs.Opening.{IsRunFromOpening};
 ghost use Rattle.qpu_machine.specs.Schedule.{After};
 ghost use Rattle.qpu_replay.specs.declared.fault.ReplayFault.{ReplayFault};
-ghost use Rattle.qpu_replay.specs.Replay.{IsFault, Replays, StopsIn};
+ghost use Rattle.qpu_replay.specs.Replay.{IsFault, Replays, StopsIn, steps_taken};
 
 use crate::fault::ReplayFault;
 use qpu_machine::{Ending, Journal, Machine, Run};
@@ -49,14 +51,19 @@ fn take_all(machine: &mut Machine, runs: &[Run]) -> Result<(), ReplayFault>
 /// is then the one before that step. `NotFinished` tells that all were taken and that something can
 /// still move; the machine is then the one after the last step. It takes no memory.
 ///
-/// A permitted schedule is a run: it has no more steps than the machine had left, and the words that it
-/// executes go on the paths of their programs and break no rule. From a machine before any step its
-/// traces are paths and its length is bounded by the limit, by the laws `traces_are_paths` and
-/// `schedules_are_bounded` of qpu_machine.
+/// Whatever the answer, the steps that were taken are no more than the machine had left, and the words
+/// that they execute go on the paths of their programs and break no rule. Where the machine was one
+/// before any step, they have at most the limit of instructions for each processor and three steps for
+/// each of these in all, and each trace is a path of its program that breaks no rule. Where the answer
+/// is Ok no move is pending, each running processor awaits the mutex or a semaphore, and a processor
+/// ran out exactly where it neither ended nor faulted and has executed the limit.
 pub fn replay(machine: &mut Machine, journal: &Journal) -> Result<Ending, ReplayFault>
     ensures answer { Replays result machine.old.state journal.now machine.new.state }
     ensures alone { (answer : Result Ending ReplayFault) (m : MachineState) → Replays answer machine.old.state journal.now m → (answer ≡ result) × (m ≡ machine.new.state) }
-    ensures run { OnOk result (IsRun machine.old.state (steps_of journal.now) machine.new.state) }
+    ensures run { IsRun machine.old.state (steps_taken result journal.now) machine.new.state }
+    ensures opening { IsRunFromOpening machine.old.state (steps_taken result journal.now) }
+    ensures rests { OnOk result (IsAtRest machine.new.state) }
+    ensures ran_out { OnOk result (RanOutAtLimit machine.new.state) }
     ensures starts { machine.new.starts ≡ machine.old.starts }
 {
     machine.keeps();

@@ -111,7 +111,7 @@ fn machine_of(alloc: Global, words: &[Word]) -> Result<Machine, Fail> {
         program: 0,
         uniforms: 0,
     });
-    Ok(Machine::new(memory, 100, programs, starts))
+    Ok(Machine::new(alloc, memory, 100, programs, starts))
 }
 
 fn push(journal: &mut Journal, actor: Actor, count: u64) -> Result<(), Fail>

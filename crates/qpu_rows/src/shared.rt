@@ -107,5 +107,5 @@ pub fn shared_with(alloc: Global, words: u32, first: &[u32]) -> Result<Shared, N
         memory.set(at, *word);
         at = at.wrapping_add(1);
     }
-    Ok(Shared::new(memory))
+    Ok(Shared::new(alloc, memory))
 }

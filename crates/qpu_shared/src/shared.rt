@@ -39,7 +39,7 @@ impl Model for Shared {
 impl Shared {
     /// A memory with the VPM all 0, the mutex free, counts of 0 and nothing pending.
     #[tactic(auto, unfolding(crate::specs::SharedState::opening_shared))]
-    pub fn new(memory: Memory) -> Shared
+    pub fn new(_alloc: Global, memory: Memory) -> Shared
         ensures { result ≡ opening_shared memory }
     {
         Shared {

@@ -29,7 +29,7 @@ fn a_machine_opens_and_a_copy_goes_its_own_way(rt: HostRuntime) -> Result<(), Fa
     let programs = Arc::new(alloc, Programs { list }).map_err(|_| Fail::from("want of memory"))?;
     let mut starts = ArrayVec::new();
     starts.push(THREE);
-    let mut machine = Machine::new(memory, 10, programs, starts);
+    let mut machine = Machine::new(alloc, memory, 10, programs, starts);
     assert!(rt; machine.start_of(3) == Some(THREE));
     assert!(rt; machine.start_of(0) == None);
     assert!(rt; machine.processor(0).is_none());
@@ -43,7 +43,7 @@ fn a_machine_opens_and_a_copy_goes_its_own_way(rt: HostRuntime) -> Result<(), Fa
     assert!(rt; copy.processor(3).map(|p| p.executed()) == Some(2));
     assert!(rt; copy.start_of(3) == Some(THREE));
     let shared = copy
-        .share_programs()
+        .share_programs(alloc)
         .map_err(|_| Fail::from("want of memory"))?;
     assert!(rt; shared.list.len() == 1);
     Ok(())

@@ -338,7 +338,7 @@ fn machine_of_one(
     let programs = Arc::new(alloc, Programs { list }).map_err(|_| Fail::from("want of memory"))?;
     let mut starts = ArrayVec::new();
     starts.push(FIRST_START);
-    Ok(Machine::new(memory, limit, programs, starts))
+    Ok(Machine::new(alloc, memory, limit, programs, starts))
 }
 
 /// A machine of processors 0 and 1, with 16 words of memory and 100 instructions each.
@@ -351,7 +351,7 @@ fn machine_of_two(alloc: Global, first: &[Word], second: &[Word]) -> Result<Mach
     let mut starts = ArrayVec::new();
     starts.push(FIRST_START);
     starts.push(SECOND_START);
-    Ok(Machine::new(memory, 100, programs, starts))
+    Ok(Machine::new(alloc, memory, 100, programs, starts))
 }
 
 /// Whether runs are those of a schedule.

@@ -4,9 +4,12 @@ use Rattle.qpu_machine.specs.declared.journal.Run.{Run}
 use Rattle.qpu_machine.specs.Journal.{steps_of}
 use Rattle.qpu_machine.specs.Schedule.{After}
 use Rattle.qpu_machine.proofs.RunLaw.{run_of}
+use Rattle.qpu_machine.proofs.ScheduleLemmas.{sound_along}
+use Rattle.qpu_machine.proofs.AtRestLaw.{final_rests, runs_out}
+use Rattle.qpu_machine.proofs.OpeningLaw.{run_from_opening}
 use Rattle.qpu_replay.specs.declared.fault.ReplayFault.TheVariants.{NotFinished}
 use Rattle.qpu_replay.specs.Replay.{IsFault}
-use Rattle.qpu_replay.proofs.AnswerLemmas.{one_answer}
+use Rattle.qpu_replay.proofs.AnswerLemmas.{one_answer, fault_taken}
 use Rattle.qpu_replay.proofs.replaying.replay.Goals as goal
 
 pub returns-in_err-take_all-clause-alone : goal.returns-in_err-take_all-clause-alone
@@ -25,6 +28,35 @@ returns-in-Some-clause-alone c =
 
 pub returns-in-Some-clause-run : goal.returns-in-Some-clause-run
 returns-in-Some-clause-run c = run_of c.keeps.ensures (rw (← c.runs.ensures.runs) c.in_ok-take_all.ensures.ok)
+
+pub returns-in-Some-clause-opening : goal.returns-in-Some-clause-opening
+returns-in-Some-clause-opening c = run_from_opening {n = c.take_all.new.machine.state} (rw (← c.runs.ensures.runs) c.in_ok-take_all.ensures.ok)
+
+pub returns-in-Some-clause-rests : goal.returns-in-Some-clause-rests
+returns-in-Some-clause-rests c = final_rests c.take_all.new.machine.state (sound_along c.keeps.ensures c.in_ok-take_all.ensures.ok) c.in-Some.ensures.still
+
+pub returns-in-Some-clause-ran_out : goal.returns-in-Some-clause-ran_out
+returns-in-Some-clause-ran_out c = runs_out c.take_all.new.machine.state (sound_along c.keeps.ensures c.in_ok-take_all.ensures.ok)
+
+pub returns-in-None-clause-run : goal.returns-in-None-clause-run
+returns-in-None-clause-run c = run_of c.keeps.ensures (rw (← c.runs.ensures.runs) c.in_ok-take_all.ensures.ok)
+
+pub returns-in-None-clause-opening : goal.returns-in-None-clause-opening
+returns-in-None-clause-opening c = run_from_opening {n = c.take_all.new.machine.state} (rw (← c.runs.ensures.runs) c.in_ok-take_all.ensures.ok)
+
+pub returns-in_err-take_all-clause-run : goal.returns-in_err-take_all-clause-run
+returns-in_err-take_all-clause-run c =
+    let p = err_from_is_err_and c.from_residual.result c.from_residual.ensures.1 in
+    let fault = c.in_err-take_all.field-0.0 in
+    let says = subst (λ (runs : List Run). IsFault fault c.args.machine.now.state runs c.take_all.new.machine.state) c.runs.ensures.runs c.in_err-take_all.ensures.err in
+    rw (p.1, p.2) (run_of c.keeps.ensures (fault_taken fault c.args.machine.now.state c.take_all.new.machine.state c.args.journal.now says))
+
+pub returns-in_err-take_all-clause-opening : goal.returns-in_err-take_all-clause-opening
+returns-in_err-take_all-clause-opening c =
+    let p = err_from_is_err_and c.from_residual.result c.from_residual.ensures.1 in
+    let fault = c.in_err-take_all.field-0.0 in
+    let says = subst (λ (runs : List Run). IsFault fault c.args.machine.now.state runs c.take_all.new.machine.state) c.runs.ensures.runs c.in_err-take_all.ensures.err in
+    rw (p.1, p.2) (run_from_opening (fault_taken fault c.args.machine.now.state c.take_all.new.machine.state c.args.journal.now says))
 
 pub returns-in-None-clause-alone : goal.returns-in-None-clause-alone
 returns-in-None-clause-alone c =
