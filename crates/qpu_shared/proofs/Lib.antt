@@ -1,7 +1,6 @@
 pub mod LocalLemmas
 pub mod SharedLemmas
 pub mod WordLemmas
-pub mod SyncLemmas
 pub mod PendingLemmas
 pub mod ExecLemmas
 pub mod MoveLemmas

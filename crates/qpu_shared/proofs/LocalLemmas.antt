@@ -121,7 +121,7 @@ same_pending f outs book pending a = rw (a.take0, a.take1) refl
 
 same_mutex : (f : Fields) (q : ℕ) (mutex : Option ℕ) → IsAlone f → mutex_after f q mutex ≡ mutex
 unfolding mutex_after
-same_mutex f q mutex a = rw (and_left _ _ a.release, a.mutex) refl
+same_mutex f q mutex a = rw (a.release, a.mutex) refl
 
 same_semaphores : (f : Fields) (counts : List ℕ) → IsAlone f → semaphores_after f counts ≡ counts
 unfolding semaphores_after

@@ -1,7 +1,7 @@
 -- What a shared word finds, and what a call that does it answers. This project's own.
-use Rattle.std.specs.Prelude.{◌≡◌, ◌≢◌, ◌<◌, ◌==◌, ℕ, Bool, true, false, length, Option, Some, None, if◌then◌else◌}
+use Rattle.std.specs.Prelude.{◌≡◌, ◌≢◌, ◌<◌, Bool, true, false, length, Option, Some, None}
 use Rattle.qpu_word.specs.declared.word.Fields.{Fields}
-use Rattle.qpu_word.specs.declared.code.TheConstants.{NOWHERE, WRITE_TMU1_S, LOOK_UPS}
+use Rattle.qpu_word.specs.declared.code.TheConstants.{NOWHERE, LOOK_UPS}
 use Rattle.qpu_word.specs.Processor.{ProcessorState}
 use Rattle.qpu_word.specs.Instruction.{halted, look_address, look_unit_of}
 use Rattle.qpu_shared.specs.declared.did.Did.{Did}

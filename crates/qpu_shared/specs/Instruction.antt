@@ -1,7 +1,7 @@
 -- One whole instruction with the shared parts: what it awaits, why it faults, what it does. The
 -- order of causes, faults and effects is this project's own; the accesses are those of the
 -- VideoCore IV 3D Architecture Reference Guide, "QPU Register Address Map".
-use Rattle.std.specs.Prelude.{ℕ, ◌+◌, ◌-◌, ◌/◌, ◌==◌, ◌&&◌, Bool, true, false, not, nat_lt, List, [], ◌∷◌, length, map, find, Option, Some, None, is_some, is_none, Result, Ok, Err, slice_index, slice_index_or, slice_set, drop, if◌then◌else◌}
+use Rattle.std.specs.Prelude.{ℕ, ◌+◌, ◌/◌, ◌==◌, ◌&&◌, Bool, true, false, not, nat_lt, List, [], ◌∷◌, length, map, find, Option, Some, None, is_some, is_none, Result, Ok, Err, slice_index, slice_index_or, slice_set, drop, if◌then◌else◌}
 use Rattle.std.specs.List.{list_all}
 use Rattle.qpu_word.specs.declared.word.Fields.{Fields}
 use Rattle.qpu_word.specs.declared.lanes.Lanes.{Lanes}
