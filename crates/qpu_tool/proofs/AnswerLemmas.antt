@@ -1,5 +1,6 @@
 -- What follows of the answer that was given.
-use Rattle.std.proofs.Common.{◌≡◌, ℕ, ◌<◌, ◌⊎◌, inl, inr, List, length, Some, refl, ap, sym, subst, ◌∙◌, arith}
+use Rattle.std.specs.Prelude.{codes}
+use Rattle.std.proofs.Common.{◌≡◌, ◌≢◌, ℕ, ◌<◌, ◌⊎◌, inl, inr, List, length, Some, refl, ap, sym, subst, ◌∙◌, arith}
 use Rattle.qpu_io.specs.Faults.{Rose}
 use Rattle.qpu_io.specs.Input.{Input, ReadsToEnd, ReadsPast, ReadsPart, ReadBreaks}
 use Rattle.qpu_io.specs.Output.{Output, appended, Cut}
@@ -9,7 +10,7 @@ use Rattle.qpu_tool.specs.declared.status.Status.TheVariants.{Done, Usage, AsmRe
 use Rattle.qpu_tool.specs.declared.words.Command.{Command}
 use Rattle.qpu_tool.specs.Commands.{IsCommand, IsNoCommand, limit_of}
 use Rattle.qpu_tool.specs.Answer.{Answer, IsGiven}
-use Rattle.qpu_tool.specs.Answers.{AnswerTo, Due, wrong_words, broken, past, whole, Judged, answered, no_memory, CallOutcome, given, out_of_memory, Answered, IsOfText, NoCountRose, NothingLeft, AnswersTo}
+use Rattle.qpu_tool.specs.Answers.{AnswerTo, Due, wrong_words, broken, past, whole, Judged, answered, no_memory, CallOutcome, given, out_of_memory, Answered, IsOfText, NoCountRose, NothingLeft, AnswersTo, IsCutOff, IsGiven}
 use Rattle.qpu_tool.proofs.CommandLemmas.{one_command}
 use Rattle.qpu_tool.proofs.StatusLemmas.{text_status}
 
@@ -52,17 +53,17 @@ sink_told words old new held held' status (given answer due gives) more =
     elim (gave answer held held' status gives) [ inl cut ↦ cut.0 | inr all ↦ absurd (no_more held held' answer.text all.1 more) ]
 sink_told words old new held held' status (out_of_memory command run read is same) more = absurd (same_output held held' same more)
 
--- why an answer is due, with its status
+-- why an answer is due, with its status, and with its text where that is always the same
 pub data Cause (words : List (List ℕ)) (old new : Input) (answer : Answer) : Type 0 where
-  by_words : answer.status ≡ Usage → IsNoCommand words → new ≡ old → Cause words old new answer
-  by_fault : (command : Command) → answer.status ≡ ReadFault → IsCommand words command → ReadBreaks old new (limit_of command) → Cause words old new answer
-  by_length : (command : Command) → answer.status ≡ TooLong → IsCommand words command → ReadsPast old new (limit_of command) → Cause words old new answer
+  by_words : answer.status ≡ Usage → answer.text ≡ codes "usage\n" → IsNoCommand words → new ≡ old → Cause words old new answer
+  by_fault : (command : Command) → answer.status ≡ ReadFault → answer.text ≡ codes "read fault\n" → IsCommand words command → ReadBreaks old new (limit_of command) → Cause words old new answer
+  by_length : (command : Command) → answer.status ≡ TooLong → answer.text ≡ codes "too long\n" → IsCommand words command → ReadsPast old new (limit_of command) → Cause words old new answer
   by_text : (command : Command) (text : List ℕ) → IsCommand words command → ReadsToEnd old new (limit_of command) text → AnswerTo command text answer → Cause words old new answer
 
 cause_of : (words : List (List ℕ)) (old new : Input) (answer : Answer) → Due words old new answer → Cause words old new answer
-cause_of words old new answer (wrong_words none same) = by_words refl none same
-cause_of words old new answer (broken command run read) = by_fault command refl run read
-cause_of words old new answer (past command run read) = by_length command refl run read
+cause_of words old new answer (wrong_words none same) = by_words refl refl none same
+cause_of words old new answer (broken command run read) = by_fault command refl refl run read
+cause_of words old new answer (past command run read) = by_length command refl refl run read
 cause_of words old new answer (whole command text a run read due) = by_text command text run read due
 
 -- what a call came to: a write fault, want of memory, or an answer with its cause
@@ -86,17 +87,38 @@ of_text command text answer status due is = subst IsOfText (sym is) (text_status
 
 -- an answer whose text isn't cut has the status that is due
 never_due : (words : List (List ℕ)) (old new : Input) (answer : Answer) → Cause words old new answer → answer.status ≡ WriteFault → ⊥
-never_due words old new answer (by_words is none same) e = let f : Usage ≡ WriteFault = sym is ∙ e in cc
-never_due words old new answer (by_fault command is run read) e = let f : ReadFault ≡ WriteFault = sym is ∙ e in cc
-never_due words old new answer (by_length command is run read) e = let f : TooLong ≡ WriteFault = sym is ∙ e in cc
+never_due words old new answer (by_words is says none same) e = let f : Usage ≡ WriteFault = sym is ∙ e in cc
+never_due words old new answer (by_fault command is says run read) e = let f : ReadFault ≡ WriteFault = sym is ∙ e in cc
+never_due words old new answer (by_length command is says run read) e = let f : TooLong ≡ WriteFault = sym is ∙ e in cc
 never_due words old new answer (by_text command text run read due) e = of_text command text answer WriteFault due (sym e)
 
--- a write fault comes only where the sink counted one
+-- a write fault comes only where the sink counted one, and then a front of what is due was written
+
+cut_off : (words : List (List ℕ)) (old new : Input) (held held' : Output) (status : Status) (answer : Answer) → Due words old new answer
+    → ((status ≡ WriteFault) × Cut held held' answer.text) ⊎ ((status ≡ answer.status) × (held' ≡ appended held answer.text)) → status ≡ WriteFault
+    → IsCutOff words old new held held'
+cut_off words old new held held' status answer due (inl part) e = record { answer = answer; due = due; cut = part.1; counted = part.1.faults }
+cut_off words old new held held' status answer due (inr all) e = absurd (never_due words old new answer (cause_of words old new answer due) (sym all.0 ∙ e))
+
 pub write_fault_told : (words : List (List ℕ)) (old new : Input) (held held' : Output) (status : Status)
-    → Came words old new held held' status → status ≡ WriteFault → Rose held.faults held'.faults
-write_fault_told words old new held held' status (cut answer is cause part) e = part.faults
-write_fault_told words old new held held' status (wanting command is run read same) e = absurd (let f : NoMemory ≡ WriteFault = sym is ∙ e in cc)
-write_fault_told words old new held held' status (gave_all answer is cause all) e = absurd (never_due words old new answer cause (sym is ∙ e))
+    → CallOutcome words old new held held' status → status ≡ WriteFault → IsCutOff words old new held held'
+write_fault_told words old new held held' status (given answer due gives) e =
+    cut_off words old new held held' status answer due (gave answer held held' status gives) e
+write_fault_told words old new held held' status (out_of_memory command run read is same) e = absurd (let f : NoMemory ≡ WriteFault = sym is ∙ e in cc)
+
+-- and in no other case but want of memory was less written than is due
+
+all_given : (words : List (List ℕ)) (old new : Input) (held held' : Output) (status : Status) (answer : Answer) → Due words old new answer
+    → ((status ≡ WriteFault) × Cut held held' answer.text) ⊎ ((status ≡ answer.status) × (held' ≡ appended held answer.text)) → status ≢ WriteFault
+    → IsGiven words old new held held' status
+all_given words old new held held' status answer due (inl part) uncut = absurd (uncut part.0)
+all_given words old new held held' status answer due (inr all) uncut = record { answer = answer; due = due; status_is = all.0; printed = all.1 }
+
+pub given_told : (words : List (List ℕ)) (old new : Input) (held held' : Output) (status : Status)
+    → CallOutcome words old new held held' status → status ≢ WriteFault → status ≢ NoMemory → IsGiven words old new held held' status
+given_told words old new held held' status (given answer due gives) uncut some =
+    all_given words old new held held' status answer due (gave answer held held' status gives) uncut
+given_told words old new held held' status (out_of_memory command run read is same) uncut some = absurd (some is)
 
 -- reading without a fault keeps the count
 kept : (old new : Input) → new.faults ≡ old.faults → old.faults < new.faults → ⊥
@@ -104,9 +126,9 @@ kept old new e more = absurd (omega (arith, e, more))
 
 -- a source's fault is told, or a write fault instead
 fault_by_cause : (words : List (List ℕ)) (old new : Input) (answer : Answer) → Cause words old new answer → old.faults < new.faults → answer.status ≡ ReadFault
-fault_by_cause words old new answer (by_words is none same) more = absurd (kept old new (ap (λ (i : Input). i.faults) same) more)
-fault_by_cause words old new answer (by_fault command is run read) more = is
-fault_by_cause words old new answer (by_length command is run read) more = absurd (kept old new read.taken.faults more)
+fault_by_cause words old new answer (by_words is says none same) more = absurd (kept old new (ap (λ (i : Input). i.faults) same) more)
+fault_by_cause words old new answer (by_fault command is says run read) more = is
+fault_by_cause words old new answer (by_length command is says run read) more = absurd (kept old new read.taken.faults more)
 fault_by_cause words old new answer (by_text command text run read due) more = absurd (kept old new read.taken.faults more)
 
 -- no fault of the source is passed over
@@ -116,36 +138,38 @@ source_told words old new held held' status (cut answer is cause part) more = in
 source_told words old new held held' status (wanting command is run read same) more = absurd (kept old new read.taken.faults more)
 source_told words old new held held' status (gave_all answer is cause all) more = inl (is ∙ fault_by_cause words old new answer cause more)
 
-rose_by_cause : (words : List (List ℕ)) (old new : Input) (answer : Answer) → Cause words old new answer → answer.status ≡ ReadFault → Rose old.faults new.faults
-rose_by_cause words old new answer (by_words is none same) e = absurd (let f : Usage ≡ ReadFault = sym is ∙ e in cc)
-rose_by_cause words old new answer (by_fault command is run read) e = read.faults
-rose_by_cause words old new answer (by_length command is run read) e = absurd (let f : TooLong ≡ ReadFault = sym is ∙ e in cc)
+rose_by_cause : (words : List (List ℕ)) (old new : Input) (answer : Answer) → Cause words old new answer → answer.status ≡ ReadFault → Rose old.faults new.faults × (answer.text ≡ codes "read fault\n")
+rose_by_cause words old new answer (by_words is says none same) e = absurd (let f : Usage ≡ ReadFault = sym is ∙ e in cc)
+rose_by_cause words old new answer (by_fault command is says run read) e = (read.faults, says)
+rose_by_cause words old new answer (by_length command is says run read) e = absurd (let f : TooLong ≡ ReadFault = sym is ∙ e in cc)
 rose_by_cause words old new answer (by_text command text run read due) e = absurd (of_text command text answer ReadFault due (sym e))
 
 -- a read fault comes only where the source counted one
 pub read_fault_told : (words : List (List ℕ)) (old new : Input) (held held' : Output) (status : Status)
-    → Came words old new held held' status → status ≡ ReadFault → Rose old.faults new.faults
+    → Came words old new held held' status → status ≡ ReadFault → Rose old.faults new.faults × (held' ≡ appended held (codes "read fault\n"))
 read_fault_told words old new held held' status (cut answer is cause part) e = absurd (let f : WriteFault ≡ ReadFault = sym is ∙ e in cc)
 read_fault_told words old new held held' status (wanting command is run read same) e = absurd (let f : NoMemory ≡ ReadFault = sym is ∙ e in cc)
-read_fault_told words old new held held' status (gave_all answer is cause all) e = rose_by_cause words old new answer cause (sym is ∙ e)
+read_fault_told words old new held held' status (gave_all answer is cause all) e =
+    let told = rose_by_cause words old new answer cause (sym is ∙ e) in (told.0, all ∙ ap (λ (t : List ℕ). appended held t) told.1)
 
-usage_by_cause : (words : List (List ℕ)) (old new : Input) (answer : Answer) → Cause words old new answer → answer.status ≡ Usage → IsNoCommand words × (new ≡ old)
-usage_by_cause words old new answer (by_words is none same) e = (none, same)
-usage_by_cause words old new answer (by_fault command is run read) e = absurd (let f : ReadFault ≡ Usage = sym is ∙ e in cc)
-usage_by_cause words old new answer (by_length command is run read) e = absurd (let f : TooLong ≡ Usage = sym is ∙ e in cc)
+usage_by_cause : (words : List (List ℕ)) (old new : Input) (answer : Answer) → Cause words old new answer → answer.status ≡ Usage → IsNoCommand words × (new ≡ old) × (answer.text ≡ codes "usage\n")
+usage_by_cause words old new answer (by_words is says none same) e = (none, same, says)
+usage_by_cause words old new answer (by_fault command is says run read) e = absurd (let f : ReadFault ≡ Usage = sym is ∙ e in cc)
+usage_by_cause words old new answer (by_length command is says run read) e = absurd (let f : TooLong ≡ Usage = sym is ∙ e in cc)
 usage_by_cause words old new answer (by_text command text run read due) e = absurd (of_text command text answer Usage due (sym e))
 
 -- usage comes exactly where the words are no command, and takes nothing
 pub usage_told : (words : List (List ℕ)) (old new : Input) (held held' : Output) (status : Status)
-    → Came words old new held held' status → status ≡ Usage → IsNoCommand words × (new ≡ old)
+    → Came words old new held held' status → status ≡ Usage → IsNoCommand words × (new ≡ old) × (held' ≡ appended held (codes "usage\n"))
 usage_told words old new held held' status (cut answer is cause part) e = absurd (let f : WriteFault ≡ Usage = sym is ∙ e in cc)
 usage_told words old new held held' status (wanting command is run read same) e = absurd (let f : NoMemory ≡ Usage = sym is ∙ e in cc)
-usage_told words old new held held' status (gave_all answer is cause all) e = usage_by_cause words old new answer cause (sym is ∙ e)
+usage_told words old new held held' status (gave_all answer is cause all) e =
+    let told = usage_by_cause words old new answer cause (sym is ∙ e) in (told.0, told.1, all ∙ ap (λ (t : List ℕ). appended held t) told.2)
 
 status_by_words : (words : List (List ℕ)) (old new : Input) (answer : Answer) → Cause words old new answer → IsNoCommand words → answer.status ≡ Usage
-status_by_words words old new answer (by_words is n same) none = is
-status_by_words words old new answer (by_fault command is run read) none = absurd (none command run)
-status_by_words words old new answer (by_length command is run read) none = absurd (none command run)
+status_by_words words old new answer (by_words is says n same) none = is
+status_by_words words old new answer (by_fault command is says run read) none = absurd (none command run)
+status_by_words words old new answer (by_length command is says run read) none = absurd (none command run)
 status_by_words words old new answer (by_text command text run read due) none = absurd (none command run)
 
 -- where the words are no command, usage is told, or a write fails
@@ -156,9 +180,9 @@ no_command words old new held held' status (wanting command is run read same) no
 no_command words old new held held' status (gave_all answer is cause all) none = inl (is ∙ status_by_words words old new answer cause none)
 
 never_wanting : (words : List (List ℕ)) (old new : Input) (answer : Answer) → Cause words old new answer → answer.status ≡ NoMemory → ⊥
-never_wanting words old new answer (by_words is none same) e = let f : Usage ≡ NoMemory = sym is ∙ e in cc
-never_wanting words old new answer (by_fault command is run read) e = let f : ReadFault ≡ NoMemory = sym is ∙ e in cc
-never_wanting words old new answer (by_length command is run read) e = let f : TooLong ≡ NoMemory = sym is ∙ e in cc
+never_wanting words old new answer (by_words is says none same) e = let f : Usage ≡ NoMemory = sym is ∙ e in cc
+never_wanting words old new answer (by_fault command is says run read) e = let f : ReadFault ≡ NoMemory = sym is ∙ e in cc
+never_wanting words old new answer (by_length command is says run read) e = let f : TooLong ≡ NoMemory = sym is ∙ e in cc
 never_wanting words old new answer (by_text command text run read due) e = of_text command text answer NoMemory due (sym e)
 
 -- want of memory leaves the sink as it was
@@ -170,19 +194,21 @@ memory_told words old new held held' status (gave_all answer is cause all) e = a
 
 -- too long is told only where more was left than the limit
 too_long_by_cause : (words : List (List ℕ)) (old new : Input) (answer : Answer) (bytes : List ℕ) (command : Command) → Cause words old new answer → answer.status ≡ TooLong
-    → IsCommand words command → old.left ≡ Some bytes → limit_of command < length bytes
-too_long_by_cause words old new answer bytes command (by_words is none same) e run left = absurd (let f : Usage ≡ TooLong = sym is ∙ e in cc)
-too_long_by_cause words old new answer bytes command (by_fault other is also read) e run left = absurd (let f : ReadFault ≡ TooLong = sym is ∙ e in cc)
-too_long_by_cause words old new answer bytes command (by_length other is also read) e run left =
-    subst (λ (k : Command). limit_of k < length bytes) (one_command words other command also run) (past_is old new (limit_of other) _ left read)
+    → IsCommand words command → old.left ≡ Some bytes → (limit_of command < length bytes) × (answer.text ≡ codes "too long\n")
+too_long_by_cause words old new answer bytes command (by_words is says none same) e run left = absurd (let f : Usage ≡ TooLong = sym is ∙ e in cc)
+too_long_by_cause words old new answer bytes command (by_fault other is says also read) e run left = absurd (let f : ReadFault ≡ TooLong = sym is ∙ e in cc)
+too_long_by_cause words old new answer bytes command (by_length other is says also read) e run left =
+    (subst (λ (k : Command). limit_of k < length bytes) (one_command words other command also run) (past_is old new (limit_of other) _ left read), says)
 too_long_by_cause words old new answer bytes command (by_text other text also read due) e run left = absurd (of_text other text answer TooLong due (sym e))
 
 pub too_long_told : (words : List (List ℕ)) (old new : Input) (held held' : Output) (status : Status) (bytes : List ℕ) (command : Command)
-    → Came words old new held held' status → status ≡ TooLong → IsCommand words command → old.left ≡ Some bytes → limit_of command < length bytes
+    → Came words old new held held' status → status ≡ TooLong → IsCommand words command → old.left ≡ Some bytes
+    → (limit_of command < length bytes) × (held' ≡ appended held (codes "too long\n"))
 too_long_told words old new held held' status bytes command (cut answer is cause part) e run left = absurd (let f : WriteFault ≡ TooLong = sym is ∙ e in cc)
 too_long_told words old new held held' status bytes command (wanting other is also read same) e run left = absurd (let f : NoMemory ≡ TooLong = sym is ∙ e in cc)
 too_long_told words old new held held' status bytes command (gave_all answer is cause all) e run left =
-    too_long_by_cause words old new answer bytes command cause (sym is ∙ e) run left
+    let told = too_long_by_cause words old new answer bytes command cause (sym is ∙ e) run left in
+    (told.0, all ∙ ap (λ (t : List ℕ). appended held t) told.1)
 
 -- answers to a text
 
@@ -196,9 +222,9 @@ record FromText (words : List (List ℕ)) (old new : Input) (held held' : Output
 
 from_cause : (words : List (List ℕ)) (old new : Input) (held held' : Output) (status : Status) (answer : Answer) → Cause words old new answer
     → status ≡ answer.status → held' ≡ appended held answer.text → IsOfText status → FromText words old new held held' status
-from_cause words old new held held' status answer (by_words due none same) is all of = absurd (subst IsOfText (is ∙ due) of)
-from_cause words old new held held' status answer (by_fault command due run read) is all of = absurd (subst IsOfText (is ∙ due) of)
-from_cause words old new held held' status answer (by_length command due run read) is all of = absurd (subst IsOfText (is ∙ due) of)
+from_cause words old new held held' status answer (by_words due says none same) is all of = absurd (subst IsOfText (is ∙ due) of)
+from_cause words old new held held' status answer (by_fault command due says run read) is all of = absurd (subst IsOfText (is ∙ due) of)
+from_cause words old new held held' status answer (by_length command due says run read) is all of = absurd (subst IsOfText (is ∙ due) of)
 from_cause words old new held held' status answer (by_text command text run read due) is all of = record {
   command = command;
   text = text;
@@ -246,13 +272,14 @@ answered_told words old new held held' status bytes command c of is left =
 due_by_cause : (words : List (List ℕ)) (old new : Input) (held held' : Output) (status : Status) (answer : Answer) (bytes : List ℕ) (command : Command)
     → Cause words old new answer → status ≡ answer.status → held' ≡ appended held answer.text → IsCommand words command → old.left ≡ Some bytes
     → NoCountRose old.faults new.faults → AnswersTo command bytes held held' status
-due_by_cause words old new held held' status answer bytes command (by_words due none same) is all run left quiet = absurd (none command run)
-due_by_cause words old new held held' status answer bytes command (by_fault other due run' read) is all run left quiet = absurd (quiet read.faults)
-due_by_cause words old new held held' status answer bytes command (by_length other due run' read) is all run left quiet =
+due_by_cause words old new held held' status answer bytes command (by_words due says none same) is all run left quiet = absurd (none command run)
+due_by_cause words old new held held' status answer bytes command (by_fault other due says run' read) is all run left quiet = absurd (quiet read.faults)
+due_by_cause words old new held held' status answer bytes command (by_length other due says run' read) is all run left quiet =
     inr (inl (
       is ∙ due,
       subst (λ (k : Command). limit_of k < length bytes) (one_command words other command run' run)
           (past_is old new (limit_of other) _ left read),
+      all ∙ ap (λ (t : List ℕ). appended held t) says,
     ))
 due_by_cause words old new held held' status answer bytes command (by_text other text run' read due) is all run left quiet =
     subst (λ (k : Command). AnswersTo k bytes held held' status) (one_command words other command run' run)

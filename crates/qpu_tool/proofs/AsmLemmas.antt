@@ -1,5 +1,5 @@
 -- What follows of the answer to assembly text.
-use Rattle.std.proofs.Common.{◌≡◌, ◌≢◌, ◌⊎◌, inl, inr, ℕ, List, Result, None, Ok, Err, ap, ◌∙◌}
+use Rattle.std.proofs.Common.{◌≡◌, ◌≢◌, ◌⊎◌, inl, inr, ℕ, List, Result, None, Ok, Err, ap, subst}
 use Rattle.std.specs.Prelude.{position}
 use Rattle.qpu_io.specs.Output.{Output, appended}
 use Rattle.qpu_token.specs.declared.fault.AsmKind.TheVariants.{Memory}
@@ -10,7 +10,8 @@ use Rattle.qpu_tool.specs.declared.status.Status.{Status}
 use Rattle.qpu_tool.specs.declared.status.Status.TheVariants.{Done, AsmRefused}
 use Rattle.qpu_tool.specs.Refusals.{is_high}
 use Rattle.qpu_tool.specs.Answer.{Answer}
-use Rattle.qpu_tool.specs.TextAnswers.{AsmAnswer, refused, assembled, words_text}
+use Rattle.qpu_tool.specs.RunAnswers.{IsOfRun}
+use Rattle.qpu_tool.specs.TextAnswers.{AsmAnswer, refused, assembled}
 use Rattle.qpu_tool.specs.Answers.{TellsFault, PrintsWords}
 use Rattle.qpu_asm.proofs.OneAssembly.{one_assembly}
 
@@ -42,21 +43,16 @@ told_by text answer held held' ascii (assembled words is) e all = absurd (let f 
 
 -- its words are printed
 
-pub words_by : (text : List ℕ) (answer : Answer) (held held' : Output) → position is_high text ≡ None → AsmAnswer text answer
-    → Done ≡ answer.status → held' ≡ appended held answer.text → PrintsWords text held held'
-words_by text answer held held' ascii (refused fault is none) e all = absurd (let f : Done ≡ AsmRefused = e in cc)
-words_by text answer held held' ascii (assembled words is) e all = record { words = words; ascii = ascii; are_due = is; printed = all }
+pub assembled_it : (text : List ℕ) (answer : Answer) (held held' : Output) (status : Status) → position is_high text ≡ None → AsmAnswer text answer
+    → status ≡ answer.status → held' ≡ appended held answer.text → IsOfRun status → (status ≡ Done) × PrintsWords text held held'
+assembled_it text answer held held' status ascii (refused fault is none) e all of = absurd (subst IsOfRun e of)
+assembled_it text answer held held' status ascii (assembled words is) e all of =
+    (e, record { words = words; ascii = ascii; are_due = is; printed = all })
 
--- words that are due are printed
+-- it has one fault or one list of words
 
 pub no_fault_due : (text codes : List ℕ) (fault : AsmFault) → IsAssembly text (Ok codes) → IsAssembly text (Err fault) → ⊥
 no_fault_due text codes fault due is = absurd (let e : ◌≡◌ {A = Result (List ℕ) AsmFault} (Ok codes) (Err fault) = one_assembly text (Ok codes) (Err fault) due is in cc)
 
 pub same_due : (text codes words : List ℕ) → IsAssembly text (Ok codes) → IsAssembly text (Ok words) → words ≡ codes
 same_due text codes words due is = let e : ◌≡◌ {A = Result (List ℕ) AsmFault} (Ok words) (Ok codes) = one_assembly text (Ok words) (Ok codes) is due in cc
-
-pub assembled_by : (text codes : List ℕ) (answer : Answer) (held held' : Output) (status : Status) → IsAssembly text (Ok codes) → AsmAnswer text answer
-    → status ≡ answer.status → held' ≡ appended held answer.text → (status ≡ Done) × (held' ≡ appended held (words_text codes))
-assembled_by text codes answer held held' status due (refused fault is none) e all = absurd (no_fault_due text codes fault due is)
-assembled_by text codes answer held held' status due (assembled words is) e all =
-    (e, all ∙ ap (λ (w : List ℕ). appended held (words_text w)) (same_due text codes words due is))

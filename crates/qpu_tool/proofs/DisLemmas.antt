@@ -1,16 +1,16 @@
 -- What follows of the answer to words.
-use Rattle.std.proofs.Common.{◌≡◌, ◌≢◌, ◌⊎◌, inl, inr, ℕ, List, Result, None, Ok, Err, ap, sym, ◌∙◌}
+use Rattle.std.proofs.Common.{◌≡◌, ◌≢◌, ◌⊎◌, inl, inr, ℕ, List, None, Err, ap, subst}
 use Rattle.std.specs.Prelude.{position}
 use Rattle.qpu_io.specs.Output.{Output, appended}
 use Rattle.qpu_token.specs.declared.fault.AsmKind.TheVariants.{Memory}
 use Rattle.qpu_token.specs.declared.fault.AsmFault.{AsmFault}
 use Rattle.qpu_asm.specs.Answers.{no_memory}
 use Rattle.qpu_asm.specs.HexLines.{hex_words, IsHexFault}
-use Rattle.qpu_dis.specs.Text.{disassembly}
 use Rattle.qpu_tool.specs.declared.status.Status.{Status}
 use Rattle.qpu_tool.specs.declared.status.Status.TheVariants.{Done, AsmRefused}
 use Rattle.qpu_tool.specs.Refusals.{is_high}
 use Rattle.qpu_tool.specs.Answer.{Answer}
+use Rattle.qpu_tool.specs.RunAnswers.{IsOfRun}
 use Rattle.qpu_tool.specs.TextAnswers.{DisAnswer, misread, told}
 use Rattle.qpu_tool.specs.Answers.{TellsLine, PrintsLines}
 
@@ -42,21 +42,8 @@ line_told_by text answer held held' ascii (told words is) e all = absurd (let f 
 
 -- its lines are printed
 
-pub lines_by : (text : List ℕ) (answer : Answer) (held held' : Output) → position is_high text ≡ None → DisAnswer text answer
-    → Done ≡ answer.status → held' ≡ appended held answer.text → PrintsLines text held held'
-lines_by text answer held held' ascii (misread fault is) e all = absurd (let f : Done ≡ AsmRefused = e in cc)
-lines_by text answer held held' ascii (told words is) e all = record { words = words; ascii = ascii; are_due = is; printed = all }
-
--- the lines of words that are due are printed
-
-not_misread : (r : Result (List ℕ) AsmFault) (codes : List ℕ) (fault : AsmFault) → r ≡ Ok codes → r ≡ Err fault → ⊥
-not_misread r codes fault p q = absurd (let e = sym p ∙ q in cc)
-
-same_words : (r : Result (List ℕ) AsmFault) (codes words : List ℕ) → r ≡ Ok codes → r ≡ Ok words → words ≡ codes
-same_words r codes words p q = let e = sym q ∙ p in cc
-
-pub disassembled_by : (text codes : List ℕ) (answer : Answer) (held held' : Output) (status : Status) → hex_words text ≡ Ok codes → DisAnswer text answer
-    → status ≡ answer.status → held' ≡ appended held answer.text → (status ≡ Done) × (held' ≡ appended held (disassembly codes))
-disassembled_by text codes answer held held' status due (misread fault is) e all = absurd (not_misread (hex_words text) codes fault due is)
-disassembled_by text codes answer held held' status due (told words is) e all =
-    (e, all ∙ ap (λ (w : List ℕ). appended held (disassembly w)) (same_words (hex_words text) codes words due is))
+pub disassembled_it : (text : List ℕ) (answer : Answer) (held held' : Output) (status : Status) → position is_high text ≡ None → DisAnswer text answer
+    → status ≡ answer.status → held' ≡ appended held answer.text → IsOfRun status → (status ≡ Done) × PrintsLines text held held'
+disassembled_it text answer held held' status ascii (misread fault is) e all of = absurd (subst IsOfRun e of)
+disassembled_it text answer held held' status ascii (told words is) e all of =
+    (e, record { words = words; ascii = ascii; are_due = is; printed = all })

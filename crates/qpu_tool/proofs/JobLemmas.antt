@@ -11,7 +11,7 @@ use Rattle.qpu_tool.specs.declared.status.Status.{Status}
 use Rattle.qpu_tool.specs.declared.status.Status.TheVariants.{AsmRefused, JobRefused, HazardRefused}
 use Rattle.qpu_tool.specs.Refusals.{names_of, fault_line, fault_status}
 use Rattle.qpu_tool.specs.Answer.{Answer}
-use Rattle.qpu_tool.specs.RunAnswers.{JobRefusal, no_job, no_machine, IsRefusedJob, TellsProgram, IsRefusedProgram}
+use Rattle.qpu_tool.specs.RunAnswers.{JobRefusal, no_job, no_machine, TellsJob, TellsProgram, TellsHazardIn}
 
 -- its status
 
@@ -52,9 +52,10 @@ no_line plan (fault.Asm told) is none e = let f : JobRefused ≡ AsmRefused = e 
 no_line plan (fault.Check program why) is none e = let f : JobRefused ≡ HazardRefused = e in cc
 no_line plan fault.Memory is none e = none refl
 
-pub job_refused_by : (text : List ℕ) (answer : Answer) → JobRefusal text answer → JobRefused ≡ answer.status → IsRefusedJob text
-job_refused_by text answer (no_job f is kind none) e = record { why = f; refused = is }
-job_refused_by text answer (no_machine plan f job is none) e = absurd (no_line plan f is none e)
+pub job_refused_by : (text : List ℕ) (answer : Answer) (held held' : Output) → JobRefusal text answer → JobRefused ≡ answer.status
+    → held' ≡ appended held answer.text → TellsJob text held held'
+job_refused_by text answer held held' (no_job f is kind none) e all = record { why = f; is_due = is; of_line = kind; no_want = none; printed = all }
+job_refused_by text answer held held' (no_machine plan f job is none) e all = absurd (no_line plan f is none e)
 
 -- its programs are refused
 
@@ -102,22 +103,24 @@ pub program_told_by : (text : List ℕ) (answer : Answer) (held held' : Output) 
 program_told_by text answer held held' (no_job f is kind none) e all = absurd (line_misspells f kind none e)
 program_told_by text answer held held' (no_machine plan f job is none) e all = misspelled_of text plan f held held' job is none e all
 
-program_of_fault : (text : List ℕ) (plan : Plan) (e : JobFault) → job_of text ≡ Ok plan → IsMakeFault plan e → e ≢ fault.Memory
-    → HazardRefused ≡ fault_status e → IsRefusedProgram text
-program_of_fault text plan (fault.Line line) job is none e = absurd is
-program_of_fault text plan (fault.Size line) job is none e = absurd is
-program_of_fault text plan (fault.Limit line) job is none e = absurd is
-program_of_fault text plan (fault.Twice line) job is none e = absurd is
-program_of_fault text plan (fault.Processor line) job is none e = absurd is
-program_of_fault text plan (fault.NoProgram line) job is none e = absurd is
-program_of_fault text plan (fault.Place line) job is none e = absurd is
-program_of_fault text plan (fault.Asm told) job is none e = absurd (let f : HazardRefused ≡ AsmRefused = e in cc)
-program_of_fault text plan (fault.Check program why) job is none e = record { plan = plan; program = program; why = why; is_job = job; refused = is }
-program_of_fault text plan fault.Memory job is none e = absurd (none refl)
+program_of_fault : (text : List ℕ) (plan : Plan) (e : JobFault) (held held' : Output) → job_of text ≡ Ok plan → IsMakeFault plan e → e ≢ fault.Memory
+    → HazardRefused ≡ fault_status e → held' ≡ appended held (fault_line (names_of plan) e) → TellsHazardIn text held held'
+program_of_fault text plan (fault.Line line) held held' job is none e all = absurd is
+program_of_fault text plan (fault.Size line) held held' job is none e all = absurd is
+program_of_fault text plan (fault.Limit line) held held' job is none e all = absurd is
+program_of_fault text plan (fault.Twice line) held held' job is none e all = absurd is
+program_of_fault text plan (fault.Processor line) held held' job is none e all = absurd is
+program_of_fault text plan (fault.NoProgram line) held held' job is none e all = absurd is
+program_of_fault text plan (fault.Place line) held held' job is none e all = absurd is
+program_of_fault text plan (fault.Asm told) held held' job is none e all = absurd (let f : HazardRefused ≡ AsmRefused = e in cc)
+program_of_fault text plan (fault.Check program why) held held' job is none e all =
+    record { plan = plan; program = program; why = why; is_job = job; refused = is; printed = all }
+program_of_fault text plan fault.Memory held held' job is none e all = absurd (none refl)
 
-pub program_refused_by : (text : List ℕ) (answer : Answer) → JobRefusal text answer → HazardRefused ≡ answer.status → IsRefusedProgram text
-program_refused_by text answer (no_job f is kind none) e = absurd (line_breaks f kind none e)
-program_refused_by text answer (no_machine plan f job is none) e = program_of_fault text plan f job is none e
+pub program_refused_by : (text : List ℕ) (answer : Answer) (held held' : Output) → JobRefusal text answer → HazardRefused ≡ answer.status
+    → held' ≡ appended held answer.text → TellsHazardIn text held held'
+program_refused_by text answer held held' (no_job f is kind none) e all = absurd (line_breaks f kind none e)
+program_refused_by text answer held held' (no_machine plan f job is none) e all = program_of_fault text plan f held held' job is none e all
 
 -- an accepted job is refused for nothing
 

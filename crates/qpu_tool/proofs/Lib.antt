@@ -15,3 +15,4 @@ pub mod OneDueText
 pub mod OneDueJob
 pub mod OneDueRecord
 pub mod OneDue
+pub mod CauseLemmas

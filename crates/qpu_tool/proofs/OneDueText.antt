@@ -27,7 +27,7 @@ not_both {X} {E} r x e p q = absurd (let g : ◌≡◌ {A = Result X E} (Ok x) (
 
 -- the assembler
 
-one_told : (text : List ℕ) (f g : AsmFault) → IsAssembly text (Err f) → IsAssembly text (Err g) → f ≡ g
+pub one_told : (text : List ℕ) (f g : AsmFault) → IsAssembly text (Err f) → IsAssembly text (Err g) → f ≡ g
 one_told text f g is is' = one_error (Err f) f g refl (one_assembly text (Err f) (Err g) is is')
 
 pub one_asm : (text : List ℕ) (a b : Answer) → AsmAnswer text a → AsmAnswer text b → a ≡ b

@@ -23,7 +23,7 @@ use Rattle.qpu_tool.specs.declared.status.Status.{Status}
 use Rattle.qpu_tool.specs.declared.status.Status.TheVariants.{Done, Usage, AsmRefused, JobRefused, HazardRefused, ReadFault, WriteFault, NoMemory, Stuck, RanOut, Faulted, RecordRefused, TooLong, NotAscii}
 use Rattle.qpu_tool.specs.Statuses.{status_for}
 use Rattle.qpu_tool.specs.Answer.{Answer}
-use Rattle.qpu_tool.specs.RunAnswers.{JobRefusal, IsOfRun, IsRefusedJob, IsRefusedProgram, TellsProgram}
+use Rattle.qpu_tool.specs.RunAnswers.{JobRefusal, IsOfRun, TellsJob, TellsHazardIn, TellsProgram}
 use Rattle.qpu_tool.specs.RecordAnswers.{OpensRecord, RecordAnswer, no_record, no_start, not_taken, other_report, replayed, TellsRecord, by_line, by_step, by_report, PrintsReport, differing_line}
 use Rattle.qpu_tool.proofs.JobLemmas.{IsOfFault, refusal_status, job_refused_by, program_told_by, program_refused_by, never_refused, same_plan}
 use Rattle.qpu_tool.proofs.RunLemmas.{run_ends, not_run}
@@ -111,21 +111,21 @@ record_status text answer (replayed parts m n opens complete follows) = record_b
 
 -- why its job is refused
 
-pub record_job_refused : (text : List ℕ) (answer : Answer) → RecordAnswer text answer → JobRefused ≡ answer.status
-    → (parts : Parts) × (record_of text ≡ Ok parts) × IsRefusedJob parts.job
-record_job_refused text answer (no_record e is none) same = absurd (let f : JobRefused ≡ RecordRefused = same in cc)
-record_job_refused text answer (no_start parts a is refusal) same = (parts, is, job_refused_by parts.job answer refusal same)
-record_job_refused text answer (not_taken parts m n e opens is) same = absurd (let f : JobRefused ≡ RecordRefused = same in cc)
-record_job_refused text answer (other_report parts m n line opens complete some differs) same = absurd (let f : JobRefused ≡ RecordRefused = same in cc)
-record_job_refused text answer (replayed parts m n opens complete follows) same = absurd (subst IsOfRun (sym same) (run_ends (ending_of n)))
+pub record_job_refused : (text : List ℕ) (answer : Answer) (held held' : Output) → RecordAnswer text answer → JobRefused ≡ answer.status
+    → held' ≡ appended held answer.text → (parts : Parts) × (record_of text ≡ Ok parts) × TellsJob parts.job held held'
+record_job_refused text answer held held' (no_record e is none) same all = absurd (let f : JobRefused ≡ RecordRefused = same in cc)
+record_job_refused text answer held held' (no_start parts a is refusal) same all = (parts, is, job_refused_by parts.job answer held held' refusal same all)
+record_job_refused text answer held held' (not_taken parts m n e opens is) same all = absurd (let f : JobRefused ≡ RecordRefused = same in cc)
+record_job_refused text answer held held' (other_report parts m n line opens complete some differs) same all = absurd (let f : JobRefused ≡ RecordRefused = same in cc)
+record_job_refused text answer held held' (replayed parts m n opens complete follows) same all = absurd (subst IsOfRun (sym same) (run_ends (ending_of n)))
 
-pub record_program_refused : (text : List ℕ) (answer : Answer) → RecordAnswer text answer → HazardRefused ≡ answer.status
-    → (parts : Parts) × (record_of text ≡ Ok parts) × IsRefusedProgram parts.job
-record_program_refused text answer (no_record e is none) same = absurd (let f : HazardRefused ≡ RecordRefused = same in cc)
-record_program_refused text answer (no_start parts a is refusal) same = (parts, is, program_refused_by parts.job answer refusal same)
-record_program_refused text answer (not_taken parts m n e opens is) same = absurd (let f : HazardRefused ≡ RecordRefused = same in cc)
-record_program_refused text answer (other_report parts m n line opens complete some differs) same = absurd (let f : HazardRefused ≡ RecordRefused = same in cc)
-record_program_refused text answer (replayed parts m n opens complete follows) same = absurd (subst IsOfRun (sym same) (run_ends (ending_of n)))
+pub record_program_refused : (text : List ℕ) (answer : Answer) (held held' : Output) → RecordAnswer text answer → HazardRefused ≡ answer.status
+    → held' ≡ appended held answer.text → (parts : Parts) × (record_of text ≡ Ok parts) × TellsHazardIn parts.job held held'
+record_program_refused text answer held held' (no_record e is none) same all = absurd (let f : HazardRefused ≡ RecordRefused = same in cc)
+record_program_refused text answer held held' (no_start parts a is refusal) same all = (parts, is, program_refused_by parts.job answer held held' refusal same all)
+record_program_refused text answer held held' (not_taken parts m n e opens is) same all = absurd (let f : HazardRefused ≡ RecordRefused = same in cc)
+record_program_refused text answer held held' (other_report parts m n line opens complete some differs) same all = absurd (let f : HazardRefused ≡ RecordRefused = same in cc)
+record_program_refused text answer held held' (replayed parts m n opens complete follows) same all = absurd (subst IsOfRun (sym same) (run_ends (ending_of n)))
 
 pub record_program_told : (text : List ℕ) (answer : Answer) (held held' : Output) → RecordAnswer text answer → AsmRefused ≡ answer.status
     → held' ≡ appended held answer.text → (parts : Parts) × (record_of text ≡ Ok parts) × TellsProgram parts.job held held'

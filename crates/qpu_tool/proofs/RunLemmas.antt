@@ -10,7 +10,7 @@ use Rattle.qpu_tool.specs.declared.status.Status.TheVariants.{Done, Usage, AsmRe
 use Rattle.qpu_tool.specs.Statuses.{status_for}
 use Rattle.qpu_tool.specs.Refusals.{is_high}
 use Rattle.qpu_tool.specs.Answer.{Answer}
-use Rattle.qpu_tool.specs.RunAnswers.{RunAnswer, refused, ran, IsOfRun, PrintsRun, IsRefusedJob, TellsProgram, IsRefusedProgram, IsAccepted}
+use Rattle.qpu_tool.specs.RunAnswers.{RunAnswer, refused, ran, IsOfRun, PrintsRun, TellsJob, TellsProgram, TellsHazardIn, IsAccepted}
 use Rattle.qpu_tool.proofs.JobLemmas.{IsOfFault, refusal_status, job_refused_by, program_told_by, program_refused_by, never_refused}
 
 -- its status
@@ -70,13 +70,15 @@ job_status text answer (ran plan s m job run) = job_by_run (status_for (ending_o
 
 -- why it is refused
 
-pub run_job_refused : (text : List ℕ) (answer : Answer) → RunAnswer text answer → JobRefused ≡ answer.status → IsRefusedJob text
-run_job_refused text answer (refused a is) e = job_refused_by text answer is e
-run_job_refused text answer (ran plan s m job run) e = absurd (subst IsOfRun (sym e) (run_ends (ending_of m)))
+pub run_job_refused : (text : List ℕ) (answer : Answer) (held held' : Output) → RunAnswer text answer → JobRefused ≡ answer.status
+    → held' ≡ appended held answer.text → TellsJob text held held'
+run_job_refused text answer held held' (refused a is) e all = job_refused_by text answer held held' is e all
+run_job_refused text answer held held' (ran plan s m job run) e all = absurd (subst IsOfRun (sym e) (run_ends (ending_of m)))
 
-pub run_program_refused : (text : List ℕ) (answer : Answer) → RunAnswer text answer → HazardRefused ≡ answer.status → IsRefusedProgram text
-run_program_refused text answer (refused a is) e = program_refused_by text answer is e
-run_program_refused text answer (ran plan s m job run) e = absurd (subst IsOfRun (sym e) (run_ends (ending_of m)))
+pub run_program_refused : (text : List ℕ) (answer : Answer) (held held' : Output) → RunAnswer text answer → HazardRefused ≡ answer.status
+    → held' ≡ appended held answer.text → TellsHazardIn text held held'
+run_program_refused text answer held held' (refused a is) e all = program_refused_by text answer held held' is e all
+run_program_refused text answer held held' (ran plan s m job run) e all = absurd (subst IsOfRun (sym e) (run_ends (ending_of m)))
 
 pub run_program_told : (text : List ℕ) (answer : Answer) (held held' : Output) → RunAnswer text answer → AsmRefused ≡ answer.status
     → held' ≡ appended held answer.text → TellsProgram text held held'

@@ -1,26 +1,21 @@
 -- What follows of the status of an answer to a text.
-use Rattle.std.proofs.Common.{◌≡◌, ℕ, ◌≤◌, inl, inr, List, length, Option, Some, None, Ok, refl, sym, subst, ◌∙◌, arith}
-use Rattle.std.specs.Prelude.{IsSome, position}
+use Rattle.std.proofs.Common.{◌≡◌, ℕ, List, None, sym, subst, ◌∙◌}
+use Rattle.std.specs.Prelude.{position}
 use Rattle.qpu_io.specs.Output.{Output, appended}
-use Rattle.qpu_asm.specs.Assembly.{IsAssembly}
-use Rattle.qpu_asm.specs.HexLines.{hex_words}
-use Rattle.qpu_flow.specs.Code.{AllInProfile}
-use Rattle.qpu_hazard.specs.Refusal.{NoneRefusable}
 use Rattle.qpu_tool.specs.declared.status.Status.{Status}
 use Rattle.qpu_tool.specs.declared.status.Status.TheVariants.{Done, Usage, AsmRefused, JobRefused, HazardRefused, ReadFault, WriteFault, NoMemory, Stuck, RanOut, Faulted, RecordRefused, TooLong, NotAscii}
-use Rattle.qpu_tool.specs.declared.command.TheConstants.{MOST_INPUT}
 use Rattle.qpu_tool.specs.declared.words.Command.{Command}
 use Rattle.qpu_tool.specs.declared.words.Command.TheVariants.{Run, Assemble, Disassemble, Check, Replay}
 use Rattle.qpu_tool.specs.Refusals.{is_high}
 use Rattle.qpu_tool.specs.Answer.{Answer}
-use Rattle.qpu_tool.specs.RunAnswers.{IsOfRun, PrintsRun, IsAccepted, RunsIt}
-use Rattle.qpu_tool.specs.RecordAnswers.{PrintsReport}
-use Rattle.qpu_tool.specs.Answers.{AnswerBy, AnswerTo, high, low, Answered, IsOfText, RefusesText, RefusesJob, RefusesWords, RefusesRecord, PrintsWords, Assembles, PrintsLines, Disassembles, PrintsAccepted, Accepts, AnswersTo}
-use Rattle.qpu_tool.proofs.RunLemmas.{IsOfJob, job_status, run_job_refused, run_program_refused, run_program_told, ran_by, accepted_by}
+use Rattle.qpu_tool.specs.RunAnswers.{IsOfRun}
+use Rattle.qpu_tool.specs.Causes.{CarriesOut}
+use Rattle.qpu_tool.specs.Answers.{AnswerBy, AnswerTo, high, low, Answered, IsOfText, TellsByte, RefusesText, RefusesJob, RefusesWords, RefusesRecord}
+use Rattle.qpu_tool.proofs.RunLemmas.{IsOfJob, job_status, run_job_refused, run_program_refused, run_program_told, ran_by}
 use Rattle.qpu_tool.proofs.RecordLemmas.{IsOfRecord, record_status, record_job_refused, record_program_refused, record_program_told, record_told, report_by}
-use Rattle.qpu_tool.proofs.AsmLemmas.{IsOfAsm, asm_status, told_by, words_by, assembled_by}
-use Rattle.qpu_tool.proofs.DisLemmas.{IsOfDis, dis_status, line_told_by, lines_by, disassembled_by}
-use Rattle.qpu_tool.proofs.CheckLemmas.{IsOfCheck, check_status, misspelled_by, hazard_by, accepted_told, accepts_by}
+use Rattle.qpu_tool.proofs.AsmLemmas.{IsOfAsm, asm_status, told_by, assembled_it}
+use Rattle.qpu_tool.proofs.DisLemmas.{IsOfDis, dis_status, line_told_by, disassembled_it}
+use Rattle.qpu_tool.proofs.CheckLemmas.{IsOfCheck, check_status, misspelled_by, hazard_by, accepted_it}
 
 -- the statuses of answers to a text of ASCII
 abbrev IsOfAscii : Status → Type 0
@@ -159,40 +154,43 @@ text_status command text answer (low a ascii by) = text_by_ascii answer.status (
 
 -- a byte that is no ASCII
 
-high_of : (command : Command) (text : List ℕ) (answer : Answer) → AnswerTo command text answer → NotAscii ≡ answer.status → IsSome (position is_high text)
-high_of command text answer (high at is) e = rw is refl
-high_of command text answer (low a ascii by) e = absurd (subst IsOfAscii (sym e) (ascii_status command text answer by))
+high_of : (command : Command) (text : List ℕ) (answer : Answer) (held held' : Output) → AnswerTo command text answer → NotAscii ≡ answer.status
+    → held' ≡ appended held answer.text → TellsByte text held held'
+high_of command text answer held held' (high at is) e all = record { at = at; is_first = is; printed = all }
+high_of command text answer held held' (low a ascii by) e all = absurd (subst IsOfAscii (sym e) (ascii_status command text answer by))
 
 pub not_ascii_is : (command : Command) (text : List ℕ) (held held' : Output) (status : Status) → Answered command text held held' status → status ≡ NotAscii
-    → IsSome (position is_high text)
-not_ascii_is command text held held' status a e = high_of command text a.answer a.due (sym e ∙ a.status_is)
+    → TellsByte text held held'
+not_ascii_is command text held held' status a e = high_of command text a.answer held held' a.due (sym e ∙ a.status_is) a.printed
 
 -- a job is refused by a line
 
-job_refused_of : (command : Command) (text : List ℕ) (answer : Answer) → AnswerBy command text answer → JobRefused ≡ answer.status → RefusesJob command text
-job_refused_of Run text answer by e = run_job_refused text answer by e
-job_refused_of Assemble text answer by e = subst IsOfAsm (sym e) (asm_status text answer by)
-job_refused_of Disassemble text answer by e = subst IsOfDis (sym e) (dis_status text answer by)
-job_refused_of Check text answer by e = subst IsOfCheck (sym e) (check_status text answer by)
-job_refused_of Replay text answer by e = record_job_refused text answer by e
+job_refused_of : (command : Command) (text : List ℕ) (answer : Answer) (held held' : Output) → AnswerBy command text answer → JobRefused ≡ answer.status
+    → held' ≡ appended held answer.text → RefusesJob command text held held'
+job_refused_of Run text answer held held' by e all = run_job_refused text answer held held' by e all
+job_refused_of Assemble text answer held held' by e all = subst IsOfAsm (sym e) (asm_status text answer by)
+job_refused_of Disassemble text answer held held' by e all = subst IsOfDis (sym e) (dis_status text answer by)
+job_refused_of Check text answer held held' by e all = subst IsOfCheck (sym e) (check_status text answer by)
+job_refused_of Replay text answer held held' by e all = record_job_refused text answer held held' by e all
 
-refused_of : (command : Command) (text : List ℕ) (answer : Answer) → AnswerTo command text answer → JobRefused ≡ answer.status → RefusesJob command text
-refused_of command text answer (high at is) e = absurd (let f : JobRefused ≡ NotAscii = e in cc)
-refused_of command text answer (low a ascii by) e = job_refused_of command text answer by e
+refused_of : (command : Command) (text : List ℕ) (answer : Answer) (held held' : Output) → AnswerTo command text answer → JobRefused ≡ answer.status
+    → held' ≡ appended held answer.text → RefusesJob command text held held'
+refused_of command text answer held held' (high at is) e all = absurd (let f : JobRefused ≡ NotAscii = e in cc)
+refused_of command text answer held held' (low a ascii by) e all = job_refused_of command text answer held held' by e all
 
 pub job_refused_is : (command : Command) (text : List ℕ) (held held' : Output) (status : Status) → Answered command text held held' status → status ≡ JobRefused
-    → RefusesJob command text
-job_refused_is command text held held' status a e = refused_of command text a.answer a.due (sym e ∙ a.status_is)
+    → RefusesJob command text held held'
+job_refused_is command text held held' status a e = refused_of command text a.answer held held' a.due (sym e ∙ a.status_is) a.printed
 
 -- the words of a program are refused by the checker
 
 words_refused_of : (command : Command) (text : List ℕ) (answer : Answer) (held held' : Output) → position is_high text ≡ None → AnswerBy command text answer
     → HazardRefused ≡ answer.status → held' ≡ appended held answer.text → RefusesWords command text held held'
-words_refused_of Run text answer held held' ascii by e all = run_program_refused text answer by e
+words_refused_of Run text answer held held' ascii by e all = run_program_refused text answer held held' by e all
 words_refused_of Assemble text answer held held' ascii by e all = subst IsOfAsm (sym e) (asm_status text answer by)
 words_refused_of Disassemble text answer held held' ascii by e all = subst IsOfDis (sym e) (dis_status text answer by)
 words_refused_of Check text answer held held' ascii by e all = hazard_by text answer held held' ascii by e all
-words_refused_of Replay text answer held held' ascii by e all = record_program_refused text answer by e
+words_refused_of Replay text answer held held' ascii by e all = record_program_refused text answer held held' by e all
 
 hazard_of : (command : Command) (text : List ℕ) (answer : Answer) (held held' : Output) → AnswerTo command text answer
     → HazardRefused ≡ answer.status → held' ≡ appended held answer.text → RefusesWords command text held held'
@@ -202,33 +200,6 @@ hazard_of command text answer held held' (low a ascii by) e all = words_refused_
 pub hazard_refused_is : (command : Command) (text : List ℕ) (held held' : Output) (status : Status) → Answered command text held held' status
     → status ≡ HazardRefused → RefusesWords command text held held'
 hazard_refused_is command text held held' status a e = hazard_of command text a.answer held held' a.due (sym e ∙ a.status_is) a.printed
-
--- a run was printed
-
-run_of : (text : List ℕ) (answer : Answer) (held held' : Output) (status : Status) → AnswerTo Run text answer → status ≡ answer.status
-    → held' ≡ appended held answer.text → IsOfRun status → PrintsRun text held held' status
-run_of text answer held held' status (high at is) e all of = absurd (subst IsOfRun e of)
-run_of text answer held held' status (low a ascii by) e all of = ran_by text answer held held' status ascii by e all of
-
-pub run_is : (text : List ℕ) (held held' : Output) (status : Status) → Answered Run text held held' status → IsOfRun status → PrintsRun text held held' status
-run_is text held held' status a of = run_of text a.answer held held' status a.due a.status_is a.printed of
-
--- an accepted job is run
-
-no_place : (o : Option ℕ) (at : ℕ) → o ≡ None → o ≡ Some at → ⊥
-no_place o at p q = absurd (let f : None ≡ Some at = sym p ∙ q in cc)
-
-accepted_ran : (text : List ℕ) (answer : Answer) (held held' : Output) (status : Status) → IsAccepted text → AnswerTo Run text answer
-    → status ≡ answer.status → held' ≡ appended held answer.text → IsOfRun status × PrintsRun text held held' status
-accepted_ran text answer held held' status is (high at there) e all = absurd (no_place (position is_high text) at is.ascii there)
-accepted_ran text answer held held' status is (low a ascii by) e all = accepted_by text answer held held' status is by e all
-
-pub runs_accepted : (text : List ℕ) (held held' : Output) (status : Status) → length text ≤ MOST_INPUT → IsAccepted text → AnswersTo Run text held held' status
-    → RunsIt text held held' status
-runs_accepted text held held' status short is (inl want) = inl want
-runs_accepted text held held' status short is (inr (inl long)) = absurd (omega (arith, short, long.1))
-runs_accepted text held held' status short is (inr (inr all)) =
-    inr (accepted_ran text all.1.answer held held' status is all.1.due all.1.status_is all.1.printed)
 
 -- assembly text is refused
 
@@ -249,75 +220,6 @@ pub text_refused_is : (command : Command) (text : List ℕ) (held held' : Output
     → status ≡ AsmRefused → RefusesText command text held held'
 text_refused_is command text held held' status a e = text_refused_of command text a.answer held held' a.due (sym e ∙ a.status_is) a.printed
 
--- assembly text is assembled
-
-words_of : (text : List ℕ) (answer : Answer) (held held' : Output) → AnswerTo Assemble text answer
-    → Done ≡ answer.status → held' ≡ appended held answer.text → PrintsWords text held held'
-words_of text answer held held' (high at is) e all = absurd (let f : Done ≡ NotAscii = e in cc)
-words_of text answer held held' (low a ascii by) e all = words_by text answer held held' ascii by e all
-
-pub words_are : (text : List ℕ) (held held' : Output) (status : Status) → Answered Assemble text held held' status → status ≡ Done → PrintsWords text held held'
-words_are text held held' status a e = words_of text a.answer held held' a.due (sym e ∙ a.status_is) a.printed
-
--- a text that has words is assembled
-
-assembled_it : (text codes : List ℕ) (answer : Answer) (held held' : Output) (status : Status) → position is_high text ≡ None → IsAssembly text (Ok codes)
-    → AnswerTo Assemble text answer → status ≡ answer.status → held' ≡ appended held answer.text → Assembles codes held held' status
-assembled_it text codes answer held held' status ascii due (high at there) e all = absurd (no_place (position is_high text) at ascii there)
-assembled_it text codes answer held held' status ascii due (low a none by) e all = inr (assembled_by text codes answer held held' status due by e all)
-
-pub assembles_it : (text codes : List ℕ) (held held' : Output) (status : Status) → length text ≤ MOST_INPUT → position is_high text ≡ None
-    → IsAssembly text (Ok codes) → AnswersTo Assemble text held held' status → Assembles codes held held' status
-assembles_it text codes held held' status short ascii due (inl want) = inl want
-assembles_it text codes held held' status short ascii due (inr (inl long)) = absurd (omega (arith, short, long.1))
-assembles_it text codes held held' status short ascii due (inr (inr all)) =
-    assembled_it text codes all.1.answer held held' status ascii due all.1.due all.1.status_is all.1.printed
-
--- the lines of words
-
-lines_of : (text : List ℕ) (answer : Answer) (held held' : Output) → AnswerTo Disassemble text answer
-    → Done ≡ answer.status → held' ≡ appended held answer.text → PrintsLines text held held'
-lines_of text answer held held' (high at is) e all = absurd (let f : Done ≡ NotAscii = e in cc)
-lines_of text answer held held' (low a ascii by) e all = lines_by text answer held held' ascii by e all
-
-pub lines_are : (text : List ℕ) (held held' : Output) (status : Status) → Answered Disassemble text held held' status → status ≡ Done → PrintsLines text held held'
-lines_are text held held' status a e = lines_of text a.answer held held' a.due (sym e ∙ a.status_is) a.printed
-
-disassembled_it : (text codes : List ℕ) (answer : Answer) (held held' : Output) (status : Status) → position is_high text ≡ None → hex_words text ≡ Ok codes
-    → AnswerTo Disassemble text answer → status ≡ answer.status → held' ≡ appended held answer.text → Disassembles codes held held' status
-disassembled_it text codes answer held held' status ascii due (high at there) e all = absurd (no_place (position is_high text) at ascii there)
-disassembled_it text codes answer held held' status ascii due (low a none by) e all = inr (disassembled_by text codes answer held held' status due by e all)
-
-pub disassembles_it : (text codes : List ℕ) (held held' : Output) (status : Status) → length text ≤ MOST_INPUT → position is_high text ≡ None
-    → hex_words text ≡ Ok codes → AnswersTo Disassemble text held held' status → Disassembles codes held held' status
-disassembles_it text codes held held' status short ascii due (inl want) = inl want
-disassembles_it text codes held held' status short ascii due (inr (inl long)) = absurd (omega (arith, short, long.1))
-disassembles_it text codes held held' status short ascii due (inr (inr all)) =
-    disassembled_it text codes all.1.answer held held' status ascii due all.1.due all.1.status_is all.1.printed
-
--- accepted programs
-
-accepted_of : (text : List ℕ) (answer : Answer) (held held' : Output) → AnswerTo Check text answer
-    → Done ≡ answer.status → held' ≡ appended held answer.text → PrintsAccepted text held held'
-accepted_of text answer held held' (high at is) e all = absurd (let f : Done ≡ NotAscii = e in cc)
-accepted_of text answer held held' (low a ascii by) e all = accepted_told text answer held held' ascii by e all
-
-pub accepted_are : (text : List ℕ) (held held' : Output) (status : Status) → Answered Check text held held' status → status ≡ Done → PrintsAccepted text held held'
-accepted_are text held held' status a e = accepted_of text a.answer held held' a.due (sym e ∙ a.status_is) a.printed
-
-checked_it : (text codes : List ℕ) (answer : Answer) (held held' : Output) (status : Status) → position is_high text ≡ None → IsAssembly text (Ok codes)
-    → AllInProfile codes → NoneRefusable codes → AnswerTo Check text answer → status ≡ answer.status → held' ≡ appended held answer.text → Accepts codes held held' status
-checked_it text codes answer held held' status ascii due inside clean (high at there) e all = absurd (no_place (position is_high text) at ascii there)
-checked_it text codes answer held held' status ascii due inside clean (low a none by) e all =
-    inr (accepts_by text codes answer held held' status due inside clean by e all)
-
-pub checks_it : (text codes : List ℕ) (held held' : Output) (status : Status) → length text ≤ MOST_INPUT → position is_high text ≡ None
-    → IsAssembly text (Ok codes) → AllInProfile codes → NoneRefusable codes → AnswersTo Check text held held' status → Accepts codes held held' status
-checks_it text codes held held' status short ascii due inside clean (inl want) = inl want
-checks_it text codes held held' status short ascii due inside clean (inr (inl long)) = absurd (omega (arith, short, long.1))
-checks_it text codes held held' status short ascii due inside clean (inr (inr all)) =
-    checked_it text codes all.1.answer held held' status ascii due inside clean all.1.due all.1.status_is all.1.printed
-
 -- a record is refused
 
 record_refused_of : (command : Command) (text : List ℕ) (answer : Answer) (held held' : Output) → AnswerBy command text answer
@@ -337,12 +239,21 @@ pub record_refused_is : (command : Command) (text : List ℕ) (held held' : Outp
     → status ≡ RecordRefused → RefusesRecord command text held held'
 record_refused_is command text held held' status a e = record_of_text command text a.answer held held' a.due (sym e ∙ a.status_is) a.printed
 
--- a report was printed
+-- a text was carried out
 
-report_of : (text : List ℕ) (answer : Answer) (held held' : Output) (status : Status) → AnswerTo Replay text answer → status ≡ answer.status
-    → held' ≡ appended held answer.text → IsOfRun status → PrintsReport text held held' status
-report_of text answer held held' status (high at is) e all of = absurd (subst IsOfRun e of)
-report_of text answer held held' status (low a ascii by) e all of = report_by text answer held held' status by e all of
+carried_by : (command : Command) (text : List ℕ) (answer : Answer) (held held' : Output) (status : Status) → position is_high text ≡ None → AnswerBy command text answer
+    → status ≡ answer.status → held' ≡ appended held answer.text → IsOfRun status → CarriesOut command text held held' status
+carried_by Run text answer held held' status ascii by e all of = ran_by text answer held held' status ascii by e all of
+carried_by Assemble text answer held held' status ascii by e all of = assembled_it text answer held held' status ascii by e all of
+carried_by Disassemble text answer held held' status ascii by e all of = disassembled_it text answer held held' status ascii by e all of
+carried_by Check text answer held held' status ascii by e all of = accepted_it text answer held held' status ascii by e all of
+carried_by Replay text answer held held' status ascii by e all of = report_by text answer held held' status by e all of
 
-pub report_is : (text : List ℕ) (held held' : Output) (status : Status) → Answered Replay text held held' status → IsOfRun status → PrintsReport text held held' status
-report_is text held held' status a of = report_of text a.answer held held' status a.due a.status_is a.printed of
+carried_of : (command : Command) (text : List ℕ) (answer : Answer) (held held' : Output) (status : Status) → AnswerTo command text answer
+    → status ≡ answer.status → held' ≡ appended held answer.text → IsOfRun status → CarriesOut command text held held' status
+carried_of command text answer held held' status (high at is) e all of = absurd (subst IsOfRun e of)
+carried_of command text answer held held' status (low a ascii by) e all of = carried_by command text answer held held' status ascii by e all of
+
+pub carried_is : (command : Command) (text : List ℕ) (held held' : Output) (status : Status) → Answered command text held held' status → IsOfRun status
+    → CarriesOut command text held held' status
+carried_is command text held held' status a of = carried_of command text a.answer held held' status a.due a.status_is a.printed of

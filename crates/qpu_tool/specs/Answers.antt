@@ -1,8 +1,8 @@
 -- Which answer is due, and what a call comes to. This project's own.
-use Rattle.std.specs.Prelude.{◌≡◌, ◌≢◌, ◌<◌, ◌≤◌, ◌⊎◌, ℕ, List, [], length, position, IfSome, Some, None, Ok, Err}
+use Rattle.std.specs.Prelude.{◌≡◌, ◌≢◌, ◌<◌, ◌≤◌, ◌⊎◌, ℕ, List, [], length, position, IfSome, Some, None, Ok, Err, codes}
 use Rattle.qpu_io.specs.Faults.{Rose}
 use Rattle.qpu_io.specs.Input.{Input, ReadsToEnd, ReadsPast, ReadsPart, ReadBreaks}
-use Rattle.qpu_io.specs.Output.{Output, appended}
+use Rattle.qpu_io.specs.Output.{Output, appended, Cut}
 use Rattle.qpu_token.specs.declared.fault.AsmFault.{AsmFault}
 use Rattle.qpu_asm.specs.Assembly.{IsAssembly}
 use Rattle.qpu_asm.specs.HexLines.{hex_words}
@@ -17,9 +17,9 @@ use Rattle.qpu_tool.specs.declared.status.Status.TheVariants.{Done, Usage, AsmRe
 use Rattle.qpu_tool.specs.declared.words.Command.{Command}
 use Rattle.qpu_tool.specs.declared.words.Command.TheVariants.{Run, Assemble, Disassemble, Check, Replay}
 use Rattle.qpu_tool.specs.Commands.{IsCommand, IsNoCommand, limit_of}
-use Rattle.qpu_tool.specs.Refusals.{is_high, asm_line, program_line}
+use Rattle.qpu_tool.specs.Refusals.{is_high, not_ascii_line, asm_line, program_line}
 use Rattle.qpu_tool.specs.Answer.{Answer, usage, read_fault, too_long, not_ascii, IsGiven}
-use Rattle.qpu_tool.specs.RunAnswers.{RunAnswer, IsRefusedJob, IsRefusedProgram, TellsProgram}
+use Rattle.qpu_tool.specs.RunAnswers.{RunAnswer, TellsJob, TellsHazardIn, TellsProgram}
 use Rattle.qpu_tool.specs.TextAnswers.{AsmAnswer, DisAnswer, CheckAnswer, words_text, accepted_line}
 use Rattle.qpu_record.specs.Reading.{Parts, record_of}
 use Rattle.qpu_tool.specs.RecordAnswers.{RecordAnswer, TellsRecord}
@@ -79,12 +79,33 @@ pub data CallOutcome (words : List (List ℕ)) (old new : Input) (held held' : O
   out_of_memory : (command : Command) → IsCommand words command → ReadsPart old new (limit_of command) → status ≡ NoMemory → held' ≡ held
       → CallOutcome words old new held held' status
 
+-- a write failed: a front of the text of the answer that is due was appended, and the sink counted the
+-- fault
+pub record IsCutOff (words : List (List ℕ)) (old new : Input) (held held' : Output) : Type 0 where
+  pub answer : Answer
+  pub due : Due words old new answer
+  pub cut : Cut held held' answer.text
+  pub counted : Rose held.faults held'.faults
+
+-- the answer that is due was given: its status, and the whole of its text
+pub record IsGiven (words : List (List ℕ)) (old new : Input) (held held' : Output) (status : Status) : Type 0 where
+  pub answer : Answer
+  pub due : Due words old new answer
+  pub status_is : status ≡ answer.status
+  pub printed : held' ≡ appended held answer.text
+
 -- an answer to a text was given whole
 pub record Answered (command : Command) (text : List ℕ) (old new : Output) (status : Status) : Type 0 where
   pub answer : Answer
   pub due : AnswerTo command text answer
   pub status_is : status ≡ answer.status
   pub printed : new ≡ appended old answer.text
+
+-- the first byte that is no ASCII has this place, which was printed
+pub record TellsByte (text : List ℕ) (old new : Output) : Type 0 where
+  pub at : ℕ
+  pub is_first : position is_high text ≡ Some at
+  pub printed : new ≡ appended old (not_ascii_line at)
 
 -- assembly text has this first fault, and its line was printed
 pub record TellsFault (text : List ℕ) (old new : Output) : Type 0 where
@@ -108,13 +129,13 @@ RefusesText Disassemble text old new = TellsLine text old new
 RefusesText Check text old new = TellsFault text old new
 RefusesText Replay text old new = (parts : Parts) × (record_of text ≡ Ok parts) × TellsProgram parts.job old new
 
--- why a command refused the job of a text
-abbrev pub RefusesJob : Command → List ℕ → Type 0
-RefusesJob Run text = IsRefusedJob text
-RefusesJob Assemble text = ⊥
-RefusesJob Disassemble text = ⊥
-RefusesJob Check text = ⊥
-RefusesJob Replay text = (parts : Parts) × (record_of text ≡ Ok parts) × IsRefusedJob parts.job
+-- why a command refused the job of a text, and what it printed
+abbrev pub RefusesJob : Command → List ℕ → Output → Output → Type 0
+RefusesJob Run text old new = TellsJob text old new
+RefusesJob Assemble text old new = ⊥
+RefusesJob Disassemble text old new = ⊥
+RefusesJob Check text old new = ⊥
+RefusesJob Replay text old new = (parts : Parts) × (record_of text ≡ Ok parts) × TellsJob parts.job old new
 
 -- the words of assembly text are refused by the checker: the least of them that is outside the profile,
 -- or the first hazard; and its line was printed
@@ -129,11 +150,11 @@ pub record TellsHazard (text : List ℕ) (old new : Output) : Type 0 where
 
 -- why a command refused the words of a program, and what it printed
 abbrev pub RefusesWords : Command → List ℕ → Output → Output → Type 0
-RefusesWords Run text old new = IsRefusedProgram text
+RefusesWords Run text old new = TellsHazardIn text old new
 RefusesWords Assemble text old new = ⊥
 RefusesWords Disassemble text old new = ⊥
 RefusesWords Check text old new = TellsHazard text old new
-RefusesWords Replay text old new = (parts : Parts) × (record_of text ≡ Ok parts) × IsRefusedProgram parts.job
+RefusesWords Replay text old new = (parts : Parts) × (record_of text ≡ Ok parts) × TellsHazardIn parts.job old new
 
 -- why a command refused the record of a text, and what it printed
 abbrev pub RefusesRecord : Command → List ℕ → Output → Output → Type 0
@@ -150,20 +171,12 @@ pub record PrintsWords (text : List ℕ) (old new : Output) : Type 0 where
   pub are_due : IsAssembly text (Ok words)
   pub printed : new ≡ appended old (words_text words)
 
--- the words of assembly text were printed, or memory was wanting
-abbrev pub Assembles : List ℕ → Output → Output → Status → Type 0
-Assembles words old new status = (status ≡ NoMemory) ⊎ ((status ≡ Done) × (new ≡ appended old (words_text words)))
-
 -- the lines of words were printed
 pub record PrintsLines (text : List ℕ) (old new : Output) : Type 0 where
   pub words : List ℕ
   pub ascii : position is_high text ≡ None
   pub are_due : hex_words text ≡ Ok words
   pub printed : new ≡ appended old (disassembly words)
-
--- the lines of words were printed, or memory was wanting
-abbrev pub Disassembles : List ℕ → Output → Output → Status → Type 0
-Disassembles words old new status = (status ≡ NoMemory) ⊎ ((status ≡ Done) × (new ≡ appended old (disassembly words)))
 
 -- a program was accepted: its words are in the profile, and no path of them breaks a hazard rule
 pub record PrintsAccepted (text : List ℕ) (old new : Output) : Type 0 where
@@ -173,10 +186,6 @@ pub record PrintsAccepted (text : List ℕ) (old new : Output) : Type 0 where
   pub inside : AllInProfile words
   pub clean : NoneRefusable words
   pub printed : new ≡ appended old (accepted_line (length words))
-
--- a program was accepted, or memory was wanting
-abbrev pub Accepts : List ℕ → Output → Output → Status → Type 0
-Accepts words old new status = (status ≡ NoMemory) ⊎ ((status ≡ Done) × (new ≡ appended old (accepted_line (length words))))
 
 -- no fault was counted: neither is a count greater after the call, nor does it stand at its last value
 abbrev pub NoCountRose : ℕ → ℕ → Type 0
@@ -191,7 +200,7 @@ NothingLeft input = IfSome input.left (λ rest. rest ≡ [])
 abbrev pub AnswersTo : Command → List ℕ → Output → Output → Status → Type 0
 AnswersTo command text old new status =
     (status ≡ NoMemory)
-    ⊎ (((status ≡ TooLong) × (limit_of command < length text))
+    ⊎ (((status ≡ TooLong) × (limit_of command < length text) × (new ≡ appended old (codes "too long\n")))
     ⊎ ((length text ≤ limit_of command) × Answered command text old new status))
 
 -- an answer was given whole, or memory was wanting

@@ -8,3 +8,4 @@ pub mod TextAnswers
 pub mod RecordAnswers
 pub mod Holding
 pub mod Answers
+pub mod Causes

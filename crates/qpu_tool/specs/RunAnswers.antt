@@ -14,15 +14,23 @@ use Rattle.qpu_job.specs.Reading.{job_of, IsReadFault}
 use Rattle.qpu_job.specs.Opening.{AreClean, opening_machine, IsMakeFault}
 use Rattle.qpu_tool.specs.declared.command.TheConstants.{MOST_INPUT}
 use Rattle.qpu_tool.specs.declared.status.Status.{Status}
-use Rattle.qpu_tool.specs.declared.status.Status.TheVariants.{Done, NoMemory, Stuck, RanOut, Faulted}
+use Rattle.qpu_tool.specs.declared.status.Status.TheVariants.{Done, JobRefused, HazardRefused, NoMemory, Stuck, RanOut, Faulted}
 use Rattle.qpu_tool.specs.Statuses.{status_for}
-use Rattle.qpu_tool.specs.Refusals.{is_high, names_of, asm_line, fault_line, fault_status}
+use Rattle.qpu_tool.specs.Refusals.{is_high, name_at, names_of, asm_line, check_line, fault_line, fault_status}
 use Rattle.qpu_tool.specs.Run.{FaithfulRun, run_text}
 use Rattle.qpu_tool.specs.Answer.{Answer}
 
 -- the answer to a fault of a job whose programs have these names
 abbrev pub refusal : List (List ℕ) → JobFault → Answer
 refusal names e = record { status = fault_status e; text = fault_line names e }
+
+-- the answer to a fault of a line of a job
+abbrev pub job_refusal : JobFault → Answer
+job_refusal e = record { status = JobRefused; text = fault_line [] e }
+
+-- the answer to what the checker refuses of a program, of a job whose programs have these names
+abbrev pub hazard_refusal : List (List ℕ) → ℕ → CheckFault → Answer
+hazard_refusal names program why = record { status = HazardRefused; text = check_line (name_at names program) why }
 
 -- the answer of a run
 abbrev pub run_answer : List ℕ → List Actor → MachineState → Answer
@@ -85,10 +93,13 @@ pub record CanRun (job : List ℕ) (s : List Actor) (m : MachineState) : Type 0 
 abbrev pub RunsIt : List ℕ → Output → Output → Status → Type 0
 RunsIt job old new status = (status ≡ NoMemory) ⊎ (IsOfRun status × PrintsRun job old new status)
 
--- why a job was refused: a line of it
-pub record IsRefusedJob (text : List ℕ) : Type 0 where
+-- why a job was refused: the fault of a line of it; the fault's kind and line were printed
+pub record TellsJob (text : List ℕ) (old new : Output) : Type 0 where
   pub why : JobFault
-  pub refused : job_of text ≡ Err why
+  pub is_due : job_of text ≡ Err why
+  pub of_line : IsReadFault why
+  pub no_want : why ≢ fault.Memory
+  pub printed : new ≡ appended old (fault_line [] why)
 
 -- why a job was refused: the first of its programs that isn't assembled; the fault's line, in the job,
 -- was printed
@@ -99,10 +110,12 @@ pub record TellsProgram (text : List ℕ) (old new : Output) : Type 0 where
   pub refused : IsMakeFault plan (fault.Asm told)
   pub printed : new ≡ appended old (asm_line told)
 
--- why a program was refused: a word outside the profile, or a hazard rule that breaks on some path
-pub record IsRefusedProgram (text : List ℕ) : Type 0 where
+-- why a job was refused: of the first of its programs that the checker refuses, the least word outside
+-- the profile, or the first hazard; it was printed with the program's name
+pub record TellsHazardIn (text : List ℕ) (old new : Output) : Type 0 where
   pub plan : Plan
   pub program : ℕ
   pub why : CheckFault
   pub is_job : job_of text ≡ Ok plan
   pub refused : IsMakeFault plan (fault.Check program why)
+  pub printed : new ≡ appended old (check_line (name_at (names_of plan) program) why)

@@ -1,22 +1,19 @@
 //! The commands that wait for nobody, from the words and the bytes to the answer.
-ghost use Rattle.std.specs.Prelude.{◌≡◌, ◌<◌, ◌≤◌, ◌⊎◌, ◌++◌, ℕ, List, [], Some, map, length, position, IsSome, None, Ok, string_bytes};
+ghost use Rattle.std.specs.Prelude.{◌≡◌, ◌≢◌, ◌<◌, ◌≤◌, ◌⊎◌, ◌++◌, ℕ, List, [], Some, map, length, codes, string_bytes};
 ghost use Rattle.qpu_io.specs.Faults.{Rose};
-ghost use Rattle.qpu_asm.specs.Assembly.{IsAssembly};
-ghost use Rattle.qpu_asm.specs.HexLines.{hex_words};
-ghost use Rattle.qpu_flow.specs.Code.{AllInProfile};
-ghost use Rattle.qpu_hazard.specs.Refusal.{NoneRefusable};
+ghost use Rattle.qpu_io.specs.Output.{appended};
 ghost use Rattle.qpu_machine.specs.declared.actor.Actor.{Actor};
 ghost use Rattle.qpu_machine.specs.Machine.{MachineState};
 ghost use Rattle.qpu_record.specs.Record.{record_text};
 ghost use Rattle.qpu_report.specs.Report.{report_text};
-ghost use Rattle.qpu_tool.specs.RecordAnswers.{PrintsReport, PrintsReportOf};
 ghost use Rattle.qpu_tool.specs.declared.words.Command.{Command};
-ghost use Rattle.qpu_tool.specs.declared.words.Command.TheVariants.{Run, Assemble, Disassemble, Check, Replay};
+ghost use Rattle.qpu_tool.specs.declared.words.Command.TheVariants.{Replay};
 ghost use Rattle.qpu_tool.specs.Commands.{IsCommand, IsNoCommand, limit_of};
-ghost use Rattle.qpu_tool.specs.Refusals.{is_high};
 ghost use Rattle.qpu_tool.specs.Answer.{Answer, IsGiven, usage, read_fault, too_long};
-ghost use Rattle.qpu_tool.specs.RunAnswers.{IsOfRun, PrintsRun, IsAccepted, RunsIt, CanRun};
-ghost use Rattle.qpu_tool.specs.Answers.{AnswerTo, IsOfText, NoCountRose, NothingLeft, Answered, AnswersTo, ComesTo, RefusesText, RefusesJob, RefusesWords, RefusesRecord, PrintsWords, Assembles, PrintsLines, Disassembles, PrintsAccepted, Accepts, CallOutcome};
+ghost use Rattle.qpu_tool.specs.RunAnswers.{CanRun};
+ghost use Rattle.qpu_tool.specs.RecordAnswers.{PrintsReportOf};
+ghost use Rattle.qpu_tool.specs.Answers.{AnswerTo, IsOfText, NoCountRose, NothingLeft, IsCutOff, IsGiven, TellsByte, AnswersTo, ComesTo, CallOutcome};
+ghost use Rattle.qpu_tool.specs.Causes.{TellsCause, CausesTo};
 
 use crate::judging::judge;
 use crate::status::Status;
@@ -87,7 +84,8 @@ fn carried_out<S: Source, K: Sink>(
 /// sixteen lower-case hexadecimal digits. `dis` reads such lines, and writes the canonical line of each
 /// word, or `.word` and its number where the word isn't canonical. `check` assembles a text, and writes
 /// how many words it has where no path of them breaks a hazard rule. Where the input is refused, the
-/// one line of the refusal that is due is written. After the first write no memory is taken.
+/// one line of the refusal that is due is written. After the first write no memory is taken. The exit
+/// status is `Status::code` of the answer.
 pub fn plain<S: Source, K: Sink>(
     alloc: Global,
     words: &[String],
@@ -97,26 +95,32 @@ pub fn plain<S: Source, K: Sink>(
     ensures outcome { CallOutcome (map string_bytes words.now) (S.shown source.old) (S.shown source.new) (K.shown sink.old) (K.shown sink.new) result }
 
     // The words: usage exactly where they are no command, and then nothing is read.
-    ensures usage { result ≡ Status.Usage → IsNoCommand (map string_bytes words.now) × (S.shown source.new ≡ S.shown source.old) }
+    ensures usage { result ≡ Status.Usage → IsNoCommand (map string_bytes words.now) × (S.shown source.new ≡ S.shown source.old) × (K.shown sink.new ≡ appended (K.shown sink.old) (codes "usage\n")) }
     ensures no_command { IsNoCommand (map string_bytes words.now) → (result ≡ Status.Usage) ⊎ (result ≡ Status.WriteFault) }
 
     // No fault is passed over, and none is made up.
     ensures sink_fault { (K.shown sink.old).faults < (K.shown sink.new).faults → result ≡ Status.WriteFault }
     ensures source_fault { (S.shown source.old).faults < (S.shown source.new).faults → (result ≡ Status.ReadFault) ⊎ (result ≡ Status.WriteFault) }
-    ensures write_fault { result ≡ Status.WriteFault → Rose (K.shown sink.old).faults (K.shown sink.new).faults }
-    ensures read_fault { result ≡ Status.ReadFault → Rose (S.shown source.old).faults (S.shown source.new).faults }
+    ensures write_fault { result ≡ Status.WriteFault → IsCutOff (map string_bytes words.now) (S.shown source.old) (S.shown source.new) (K.shown sink.old) (K.shown sink.new) }
+    ensures read_fault { result ≡ Status.ReadFault → Rose (S.shown source.old).faults (S.shown source.new).faults × (K.shown sink.new ≡ appended (K.shown sink.old) (codes "read fault\n")) }
 
-    // What is read and written.
+    // What is read and written: where no write failed and no memory was wanting, the whole text of the
+    // answer that is due.
     ensures nothing_left { IsOfText result → NothingLeft (S.shown source.new) }
     ensures no_memory { result ≡ Status.NoMemory → K.shown sink.new ≡ K.shown sink.old }
+    ensures given { result ≢ Status.WriteFault → result ≢ Status.NoMemory
+        → IsGiven (map string_bytes words.now) (S.shown source.old) (S.shown source.new) (K.shown sink.old) (K.shown sink.new) result }
 
-    // Each answer to the bytes has its cause, and where no fault is counted one of them comes: the one
-    // that is due, since no other is.
-    ensures too_long { (bytes : List ℕ) (command : Command) → IsCommand (map string_bytes words.now) command → (S.shown source.old).left ≡ Some bytes
-        → result ≡ Status.TooLong → limit_of command < length bytes }
-    ensures not_ascii { (bytes : List ℕ) → (S.shown source.old).left ≡ Some bytes → result ≡ Status.NotAscii → IsSome (position is_high bytes) }
-    ensures answered { (bytes : List ℕ) (command : Command) → IsCommand (map string_bytes words.now) command → (S.shown source.old).left ≡ Some bytes
-        → IsOfText result → Answered command bytes (K.shown sink.old) (K.shown sink.new) result }
+    // Each answer to the bytes tells its cause.
+    ensures not_ascii { (bytes : List ℕ) → (S.shown source.old).left ≡ Some bytes → result ≡ Status.NotAscii → TellsByte bytes (K.shown sink.old) (K.shown sink.new) }
+    ensures tells { (bytes : List ℕ) (command : Command) → IsCommand (map string_bytes words.now) command → (S.shown source.old).left ≡ Some bytes
+        → TellsCause command bytes (K.shown sink.old) (K.shown sink.new) result }
+
+    // Where no fault is counted, each cause has its answer: one of them comes, the one that is due, since
+    // no other is.
+    ensures causes { (bytes : List ℕ) (command : Command) → IsCommand (map string_bytes words.now) command → (S.shown source.old).left ≡ Some bytes
+        → NoCountRose (S.shown source.old).faults (S.shown source.new).faults → NoCountRose (K.shown sink.old).faults (K.shown sink.new).faults
+        → CausesTo command bytes (K.shown sink.old) (K.shown sink.new) result }
     ensures complete { (bytes : List ℕ) (command : Command) → IsCommand (map string_bytes words.now) command → (S.shown source.old).left ≡ Some bytes
         → NoCountRose (S.shown source.old).faults (S.shown source.new).faults → NoCountRose (K.shown sink.old).faults (K.shown sink.new).faults
         → AnswersTo command bytes (K.shown sink.old) (K.shown sink.new) result }
@@ -125,57 +129,12 @@ pub fn plain<S: Source, K: Sink>(
         → NoCountRose (S.shown source.old).faults (S.shown source.new).faults → NoCountRose (K.shown sink.old).faults (K.shown sink.new).faults
         → ComesTo answer (K.shown sink.old) (K.shown sink.new) result }
 
-    // Refusals of what is read: a line or a program of a job, the words of a program, a text.
-    ensures job_refused { (bytes : List ℕ) (command : Command) → IsCommand (map string_bytes words.now) command → (S.shown source.old).left ≡ Some bytes
-        → result ≡ Status.JobRefused → RefusesJob command bytes }
-    ensures hazard_refused { (bytes : List ℕ) (command : Command) → IsCommand (map string_bytes words.now) command → (S.shown source.old).left ≡ Some bytes
-        → result ≡ Status.HazardRefused → RefusesWords command bytes (K.shown sink.old) (K.shown sink.new) }
-    ensures asm_refused { (bytes : List ℕ) (command : Command) → IsCommand (map string_bytes words.now) command → (S.shown source.old).left ≡ Some bytes
-        → result ≡ Status.AsmRefused → RefusesText command bytes (K.shown sink.old) (K.shown sink.new) }
-
-    ensures record_refused { (bytes : List ℕ) (command : Command) → IsCommand (map string_bytes words.now) command → (S.shown source.old).left ≡ Some bytes
-        → result ≡ Status.RecordRefused → RefusesRecord command bytes (K.shown sink.old) (K.shown sink.new) }
-
-    // Runs: each status of them has its cause, and an accepted job is run.
-    ensures ran { (bytes : List ℕ) → IsCommand (map string_bytes words.now) Run → (S.shown source.old).left ≡ Some bytes
-        → IsOfRun result → PrintsRun bytes (K.shown sink.old) (K.shown sink.new) result }
-    ensures accepted { (bytes : List ℕ) → IsCommand (map string_bytes words.now) Run → (S.shown source.old).left ≡ Some bytes → length bytes ≤ MOST_INPUT → IsAccepted bytes
-        → NoCountRose (S.shown source.old).faults (S.shown source.new).faults → NoCountRose (K.shown sink.old).faults (K.shown sink.new).faults
-        → RunsIt bytes (K.shown sink.old) (K.shown sink.new) result }
-
-    // Replays: the report is that of the machine after exactly the steps of the record; and what a run
-    // prints, with its report or without, is replayed to the same report and status.
-    ensures replayed { (bytes : List ℕ) → IsCommand (map string_bytes words.now) Replay → (S.shown source.old).left ≡ Some bytes
-        → IsOfRun result → PrintsReport bytes (K.shown sink.old) (K.shown sink.new) result }
+    // What a run prints, with its report or without, is replayed to the same report and status.
     ensures replays { (job rest : List ℕ) (s : List Actor) (m : MachineState) → IsCommand (map string_bytes words.now) Replay
         → (S.shown source.old).left ≡ Some (record_text job s ++ rest) → length (record_text job s ++ rest) ≤ MOST_RECORD
         → CanRun job s m → (rest ≡ []) ⊎ (rest ≡ report_text m)
         → NoCountRose (S.shown source.old).faults (S.shown source.new).faults → NoCountRose (K.shown sink.old).faults (K.shown sink.new).faults
         → PrintsReportOf m (K.shown sink.old) (K.shown sink.new) result }
-
-    // Assembly text: the words that are due are printed.
-    ensures assembled { (bytes : List ℕ) → IsCommand (map string_bytes words.now) Assemble → (S.shown source.old).left ≡ Some bytes
-        → result ≡ Status.Done → PrintsWords bytes (K.shown sink.old) (K.shown sink.new) }
-    ensures assembles { (bytes codes : List ℕ) → IsCommand (map string_bytes words.now) Assemble → (S.shown source.old).left ≡ Some bytes
-        → length bytes ≤ MOST_INPUT → position is_high bytes ≡ None → IsAssembly bytes (Ok codes)
-        → NoCountRose (S.shown source.old).faults (S.shown source.new).faults → NoCountRose (K.shown sink.old).faults (K.shown sink.new).faults
-        → Assembles codes (K.shown sink.old) (K.shown sink.new) result }
-
-    // Words: their lines are printed.
-    ensures disassembled { (bytes : List ℕ) → IsCommand (map string_bytes words.now) Disassemble → (S.shown source.old).left ≡ Some bytes
-        → result ≡ Status.Done → PrintsLines bytes (K.shown sink.old) (K.shown sink.new) }
-    ensures disassembles { (bytes codes : List ℕ) → IsCommand (map string_bytes words.now) Disassemble → (S.shown source.old).left ≡ Some bytes
-        → length bytes ≤ MOST_INPUT → position is_high bytes ≡ None → hex_words bytes ≡ Ok codes
-        → NoCountRose (S.shown source.old).faults (S.shown source.new).faults → NoCountRose (K.shown sink.old).faults (K.shown sink.new).faults
-        → Disassembles codes (K.shown sink.old) (K.shown sink.new) result }
-
-    // The checker: words are accepted exactly where they are in the profile and break no rule.
-    ensures checked { (bytes : List ℕ) → IsCommand (map string_bytes words.now) Check → (S.shown source.old).left ≡ Some bytes
-        → result ≡ Status.Done → PrintsAccepted bytes (K.shown sink.old) (K.shown sink.new) }
-    ensures checks { (bytes codes : List ℕ) → IsCommand (map string_bytes words.now) Check → (S.shown source.old).left ≡ Some bytes
-        → length bytes ≤ MOST_INPUT → position is_high bytes ≡ None → IsAssembly bytes (Ok codes) → AllInProfile codes → NoneRefusable codes
-        → NoCountRose (S.shown source.old).faults (S.shown source.new).faults → NoCountRose (K.shown sink.old).faults (K.shown sink.new).faults
-        → Accepts codes (K.shown sink.old) (K.shown sink.new) result }
 {
     carried_out(alloc, words, source, sink)
 }

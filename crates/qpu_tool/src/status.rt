@@ -35,7 +35,8 @@ pub enum Status {
 }
 
 impl Status {
-    /// The exit status, 0 to 13.
+    /// The exit status: 0 Done, 1 Usage, 2 AsmRefused, 3 JobRefused, 4 HazardRefused, 5 ReadFault,
+    /// 6 WriteFault, 7 NoMemory, 8 Stuck, 9 RanOut, 10 Faulted, 11 RecordRefused, 12 TooLong, 13 NotAscii.
     pub fn code(self) -> u8
         ensures { result ≡ status_code self }
     {
