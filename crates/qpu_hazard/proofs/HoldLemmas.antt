@@ -127,7 +127,7 @@ looks_hold : (code t : List ℕ) (a unit : ℕ) → unit < 2 → actions (fields
     → LooksHold code t a unit
 looks_hold code t a unit low few held =
     let from = looks_from (fields_at code a) unit (outstanding_looks code unit t) low few held in
-    record { room = from.0; one_if = from.1; most = from.2 }
+    record { room = from.0; one = from.1; most = from.2 }
 
 pub word_holds : (code t : List ℕ) (a : ℕ) → IsClean code → IsPath code t → IsTrue (follows code t a) → WordHolds code t a
 word_holds code t a clean is_path after =

@@ -1,5 +1,5 @@
 //! How these rows ask the program: words and bytes in, a status and a text out.
-use qpu_io::{MemSink, MemSource};
+use qpu_io::{MemSink, MemSource, Source};
 use qpu_tool::{Status, plain};
 use std::alloc::{AllocError, Global};
 
@@ -50,6 +50,25 @@ fn owned(alloc: Global, words: &[&str]) -> Result<Vec<String>, AllocError> {
     Ok(all)
 }
 
+/// Carries the words out on a source, with writes that fail at these calls.
+fn answered_from(
+    alloc: Global,
+    words: &[&str],
+    source: &mut MemSource,
+    failing_writes: &[u64],
+) -> Result<Answer, AllocError> {
+    let mut sink = MemSink::new(alloc, Vec::from_slice(alloc, failing_writes)?);
+    if sink.reserve(ROOM).is_err() {
+        return Err(AllocError);
+    }
+    let words = owned(alloc, words)?;
+    let status = plain(alloc, &words, source, &mut sink);
+    Ok(Answer {
+        status,
+        text: Vec::from_slice(alloc, sink.bytes())?,
+    })
+}
+
 /// Carries the words out on the bytes, with reads and writes that fail at these calls.
 pub fn answered(
     alloc: Global,
@@ -60,16 +79,18 @@ pub fn answered(
 ) -> Result<Answer, AllocError> {
     let bytes = Vec::from_slice(alloc, bytes)?;
     let mut source = MemSource::new(alloc, bytes, Vec::from_slice(alloc, failing_reads)?);
-    let mut sink = MemSink::new(alloc, Vec::from_slice(alloc, failing_writes)?);
-    if sink.reserve(ROOM).is_err() {
-        return Err(AllocError);
+    answered_from(alloc, words, &mut source, failing_writes)
+}
+
+/// Carries the words out on a source whose first read fails; none where they made that read, since
+/// the next one then doesn't fail.
+pub fn answered_unread(alloc: Global, words: &[&str]) -> Result<Option<Answer>, AllocError> {
+    let mut source = MemSource::new(alloc, Vec::new(alloc), Vec::from_slice(alloc, &[0])?);
+    let answer = answered_from(alloc, words, &mut source, &[])?;
+    match source.read(&mut [0; 1]) {
+        Ok(_) => Ok(None),
+        Err(_) => Ok(Some(answer)),
     }
-    let words = owned(alloc, words)?;
-    let status = plain(alloc, &words, &mut source, &mut sink);
-    Ok(Answer {
-        status,
-        text: Vec::from_slice(alloc, sink.bytes())?,
-    })
 }
 
 /// The whole output of a row: its job's record up to the schedule, and the rest.

@@ -1,5 +1,6 @@
 //! The command `asm`: texts, and the words or the refusal that are written.
 use crate::asking::{ASM, answered};
+use crate::assembler_limits::{nested_macros, repeated};
 use qpu_tool::{MOST_INPUT, Status};
 use std::test::Fail;
 
@@ -84,15 +85,50 @@ fn a_text_with_a_fault_is_refused(rt: HostRuntime) -> Result<(), Fail> {
 }
 
 #[test]
+fn a_text_past_a_limit_is_refused(rt: HostRuntime) -> Result<(), Fail> {
+    let alloc = rt.alloc();
+    let rows = [
+        (
+            String::from_str(alloc, ".rep 4097\nnop\n.endr\n")?,
+            "refused asm Range at line 1 column 6\n",
+        ),
+        (
+            nested_macros(alloc, 17)?,
+            "refused asm TooDeep at line 5 column 1\n",
+        ),
+        (
+            repeated(alloc, "nop\n", 4_097)?,
+            "refused asm TooLong at line 4097 column 1\n",
+        ),
+    ];
+    for (text, line) in &rows {
+        let answer = answered(alloc, &ASM, text.as_bytes(), &[], &[])?;
+        assert!(rt; answer.status == Status::AsmRefused, "{line}");
+        assert!(rt; answer.text.as_slice() == line.as_bytes(), "{line}");
+    }
+    Ok(())
+}
+
+#[test]
+fn a_comment_may_be_as_long_as_the_input(rt: HostRuntime) -> Result<(), Fail> {
+    let alloc = rt.alloc();
+    let mut text = vec![in alloc; b'#'; MOST_INPUT as usize]?;
+    let whole = answered(alloc, &ASM, &text, &[], &[])?;
+    assert!(rt; whole.status == Status::Done);
+    assert!(rt; whole.text.is_empty());
+    text.push(b'#')?;
+    let longer = answered(alloc, &ASM, &text, &[], &[])?;
+    assert!(rt; longer.status == Status::TooLong);
+    assert!(rt; longer.text.as_slice() == b"too long\n".as_slice());
+    Ok(())
+}
+
+#[test]
 fn an_input_that_is_no_text_is_refused(rt: HostRuntime) -> Result<(), Fail> {
     let alloc = rt.alloc();
     let high = answered(alloc, &ASM, &[0x61, 0xc3], &[], &[])?;
     assert!(rt; high.status == Status::NotAscii);
     assert!(rt; high.text.as_slice() == b"not ascii at 1\n".as_slice());
-    let lines = vec![in alloc; b'\n'; MOST_INPUT as usize + 1]?;
-    let long = answered(alloc, &ASM, &lines, &[], &[])?;
-    assert!(rt; long.status == Status::TooLong);
-    assert!(rt; long.text.as_slice() == b"too long\n".as_slice());
     let broken = answered(alloc, &ASM, b"nop\n", &[0], &[])?;
     assert!(rt; broken.status == Status::ReadFault);
     assert!(rt; broken.text.as_slice() == b"read fault\n".as_slice());

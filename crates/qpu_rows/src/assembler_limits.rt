@@ -19,7 +19,7 @@ fn answer(alloc: Global, text: &str) -> Result<Vec<Word>, AsmFault> {
 }
 
 /// So many times a text.
-fn repeated(alloc: Global, text: &str, times: usize) -> Result<String, Fail> {
+pub fn repeated(alloc: Global, text: &str, times: usize) -> Result<String, Fail> {
     let mut all = String::new(alloc);
     for _ in 0..times {
         all.push_str(text)?;
@@ -64,8 +64,8 @@ fn word_4097_is_one_too_many(rt: HostRuntime) -> Result<(), Fail> {
     Ok(())
 }
 
-/// Macros of which each calls the one before it.
-fn nested_macros(alloc: Global, count: u32) -> Result<String, Fail> {
+/// Macros of which each calls the one before it, and a call of the last.
+pub fn nested_macros(alloc: Global, count: u32) -> Result<String, Fail> {
     let mut text = String::from_str(alloc, ".macro m1\nnop\n.endm\n")?;
     for i in 2..=count {
         let before = i - 1;

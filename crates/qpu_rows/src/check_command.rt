@@ -23,6 +23,8 @@ fn a_clean_program_is_accepted(rt: HostRuntime) -> Result<(), Fail> {
             "or r0, elem_num, elem_num\nnop\nnop; v8min r1, r0, r0; rot 1\nnop; v8min r2, r0, r0; rot r5\nnop; thrend\nnop\nnop\n",
             "accepted 7 words\n",
         ),
+        // three words stand behind the branch, which comes back
+        (":a brr -, :a\nnop\nnop\nnop\n", "accepted 4 words\n"),
     ];
     for (text, line) in rows {
         let answer = answered(alloc, &CHECK, text.as_bytes(), &[], &[])?;
@@ -50,6 +52,10 @@ fn a_hazard_is_refused_with_its_place(rt: HostRuntime) -> Result<(), Fail> {
             "refused hazard H3 at 1 after 0\n",
         ),
         ("nop\n", "refused hazard H10 at 0 after 0\n"),
+        (
+            ":a brr -, :a\nnop\nnop\n",
+            "refused hazard H10 at 2 after 2\n",
+        ),
     ];
     for (text, line) in rows {
         let answer = answered(alloc, &CHECK, text.as_bytes(), &[], &[])?;

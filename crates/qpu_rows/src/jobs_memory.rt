@@ -22,6 +22,20 @@ pub const NOTHING: Row = Row {
         ",
 };
 
+/// What the words that read uniforms write after their job.
+const UNIFORMS_REST: &str = "\
+    schedule\n\
+    q 0 3\n\
+    endrecord\n\
+    report\n\
+    qpu 0 faulted Uniform at 2 executed 2 interrupts 0\n\
+    r0 0000000a 0000000a 0000000a 0000000a 0000000a 0000000a 0000000a 0000000a 0000000a 0000000a 0000000a 0000000a 0000000a 0000000a 0000000a 0000000a\n\
+    r1 00000006 00000006 00000006 00000006 00000006 00000006 00000006 00000006 00000006 00000006 00000006 00000006 00000006 00000006 00000006 00000006\n\
+    mem 00000000 00000005 00000006\n\
+    ending faulted\n\
+    endreport\n\
+    ";
+
 /// Three words that read uniforms, of which two lie inside memory.
 pub const UNIFORMS: Row = Row {
     job: "\
@@ -41,18 +55,29 @@ pub const UNIFORMS: Row = Row {
         ",
     size: "148",
     status: Status::Faulted,
-    rest: "\
-        schedule\n\
-        q 0 3\n\
-        endrecord\n\
-        report\n\
-        qpu 0 faulted Uniform at 2 executed 2 interrupts 0\n\
-        r0 0000000a 0000000a 0000000a 0000000a 0000000a 0000000a 0000000a 0000000a 0000000a 0000000a 0000000a 0000000a 0000000a 0000000a 0000000a 0000000a\n\
-        r1 00000006 00000006 00000006 00000006 00000006 00000006 00000006 00000006 00000006 00000006 00000006 00000006 00000006 00000006 00000006 00000006\n\
-        mem 00000000 00000005 00000006\n\
-        ending faulted\n\
-        endreport\n\
+    rest: UNIFORMS_REST,
+};
+
+/// The same words as numbers.
+pub const UNIFORM_WORDS: Row = Row {
+    job: "\
+        qpujob 1\n\
+        memory 2\n\
+        limit 100\n\
+        data 0 5 6\n\
+        program a\n\
+        .word 0x100208270c820dc0\n\
+        .word 0x1002086715827d80\n\
+        .word 0x100208a715827d80\n\
+        .word 0x300009e7009e7000\n\
+        .word 0x100009e7009e7000\n\
+        .word 0x100009e7009e7000\n\
+        endprogram\n\
+        start 0 a 0\n\
         ",
+    size: "222",
+    status: Status::Faulted,
+    rest: UNIFORMS_REST,
 };
 
 /// One look-up, fetched by a step of its own.

@@ -22,6 +22,8 @@ mod cuts;
 #[cfg(test)]
 mod dis_command;
 #[cfg(test)]
+mod failing_calls;
+#[cfg(test)]
 mod hexadecimal;
 #[cfg(test)]
 mod jobs;

@@ -90,6 +90,50 @@ fn a_step_that_is_not_enabled_is_told(rt: HostRuntime) -> Result<(), Fail> {
     Ok(())
 }
 
+/// What the run of the first record writes, with other items in place of its one item.
+fn output_with(alloc: Global, items: &[u8]) -> Result<Vec<u8>, AllocError> {
+    let mut text = behind(alloc, HEAD, items)?;
+    text.extend_from_slice(b"endrecord\n")?;
+    text.extend_from_slice(REPORT)?;
+    Ok(text)
+}
+
+#[test]
+fn other_items_before_the_report_are_told(rt: HostRuntime) -> Result<(), Fail> {
+    let alloc = rt.alloc();
+    assert!(rt; output_with(alloc, b"q 0 4\n")?.as_slice() == ASSEMBLED_OUTPUT);
+    let rows: [(&[u8], &[u8]); 9] = [
+        (b"", b"refused record not finished\n"),
+        (b"q 0 4\nq 0 4\n", b"refused record item 1 step 5\n"),
+        (b"q 0 5\n", b"refused record item 1 step 5\n"),
+        (b"q 3 1\n", b"refused record item 1 step 1\n"),
+        (b"l 0 1\n", b"refused record item 1 step 1\n"),
+        (b"q 0 0\n", b"refused record number at line 14\n"),
+        (b"q 12 4\n", b"refused record number at line 14\n"),
+        (b"t 0 2 1\n", b"refused record number at line 14\n"),
+        (b"x 0 4\n", b"refused record line 14\n"),
+    ];
+    for (items, line) in rows {
+        let text = output_with(alloc, items)?;
+        let answer = answered(alloc, &REPLAY, &text, &[], &[])?;
+        assert!(rt; answer.status == Status::RecordRefused);
+        assert!(rt; answer.text.as_slice() == line);
+    }
+    Ok(())
+}
+
+#[test]
+fn another_version_before_a_whole_record_is_told(rt: HostRuntime) -> Result<(), Fail> {
+    let alloc = rt.alloc();
+    let whole = ASSEMBLED_OUTPUT.strip_prefix(b"qpurecord 1\n");
+    let rest = whole.ok_or("the output begins with its version")?;
+    let text = behind(alloc, b"qpurecord 9\n", rest)?;
+    let answer = answered(alloc, &REPLAY, &text, &[], &[])?;
+    assert!(rt; answer.status == Status::RecordRefused);
+    assert!(rt; answer.text.as_slice() == b"refused record version\n".as_slice());
+    Ok(())
+}
+
 #[test]
 fn another_report_is_told_by_its_first_line(rt: HostRuntime) -> Result<(), Fail> {
     let alloc = rt.alloc();

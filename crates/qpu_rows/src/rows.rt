@@ -1,8 +1,9 @@
-use crate::asking::{RUN, answered};
+use crate::asking::{RUN, answered, answered_unread};
 use crate::jobs::{
     ASSEMBLED, ASSEMBLED_OUTPUT, FIRST, FIRST_OUTPUT, SECOND, SECOND_OUTPUT, WITHOUT_END,
 };
 use qpu_tool::{MOST_INPUT, Status};
+use std::alloc::{AllocError, Global};
 use std::test::Fail;
 
 #[test]
@@ -26,9 +27,18 @@ fn words_of_one_processor_give_their_record_and_report(rt: HostRuntime) -> Resul
     Ok(())
 }
 
+/// Whether the words are answered by the usage, with nothing read.
+fn is_no_command(alloc: Global, words: &[&str]) -> Result<bool, AllocError> {
+    match answered_unread(alloc, words)? {
+        Some(answer) => {
+            Ok(answer.status == Status::Usage && answer.text.as_slice() == b"usage\n".as_slice())
+        }
+        None => Ok(false),
+    }
+}
+
 #[test]
 fn other_words_are_no_command(rt: HostRuntime) -> Result<(), Fail> {
-    let alloc = rt.alloc();
     let rows: [&[&str]; 12] = [
         &[],
         &["run"],
@@ -44,36 +54,17 @@ fn other_words_are_no_command(rt: HostRuntime) -> Result<(), Fail> {
         &["check", ""],
     ];
     for words in rows {
-        let answer = answered(alloc, words, FIRST, &[], &[])?;
-        assert!(rt; answer.status == Status::Usage);
-        assert!(rt; answer.text.as_slice() == b"usage\n".as_slice());
+        assert!(rt; is_no_command(rt.alloc(), words)?);
     }
     Ok(())
 }
 
 #[test]
-fn a_read_that_fails_is_told(rt: HostRuntime) -> Result<(), Fail> {
-    let alloc = rt.alloc();
-    for call in 0..2u64 {
-        let answer = answered(alloc, &RUN, FIRST, &[call], &[])?;
-        assert!(rt; answer.status == Status::ReadFault);
-        assert!(rt; answer.text.as_slice() == b"read fault\n".as_slice());
-    }
-    Ok(())
-}
-
-#[test]
-fn a_write_that_fails_leaves_a_front_of_the_output(rt: HostRuntime) -> Result<(), Fail> {
-    let alloc = rt.alloc();
-    let first = answered(alloc, &RUN, FIRST, &[], &[0])?;
-    assert!(rt; first.status == Status::WriteFault);
-    assert!(rt; first.text.is_empty());
-    for call in 1..20u64 {
-        let answer = answered(alloc, &RUN, FIRST, &[], &[call])?;
-        assert!(rt; answer.status == Status::WriteFault, "write {call}");
+fn a_number_of_workers_that_is_none_is_no_command(rt: HostRuntime) -> Result<(), Fail> {
+    for workers in ["13", "01", "-0", "0x0", " 0", ""] {
         assert!(rt;
-            FIRST_OUTPUT.starts_with(answer.text.as_slice()),
-            "write {call}"
+            is_no_command(rt.alloc(), &["run", "-w", workers])?,
+            "{workers}"
         );
     }
     Ok(())

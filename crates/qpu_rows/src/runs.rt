@@ -2,7 +2,7 @@
 //! hand; only the text of the twelve processors was written by an interpreter of its own, and then
 //! held against what each look-up, sum and store of that job must give.
 use crate::asking::{REPLAY, RUN, Row, answered, whole};
-use crate::jobs_memory::{LOOK_UP, LOOSE, NOTHING, UNIFORMS};
+use crate::jobs_memory::{LOOK_UP, LOOSE, NOTHING, UNIFORM_WORDS, UNIFORMS};
 use crate::jobs_twelve::TWELVE;
 use crate::jobs_units::{CARRIES, NEIGHBOUR, PACKS, PASSED_BY, ROTATIONS};
 use crate::jobs_vpm::{
@@ -68,6 +68,7 @@ fn memory_is_read_by_uniforms_and_look_ups(rt: HostRuntime) -> Result<(), Fail> 
     assert!(rt; holds(alloc, &NOTHING)?);
     assert!(rt; holds(alloc, &LOOSE)?);
     assert!(rt; holds(alloc, &UNIFORMS)?);
+    assert!(rt; holds(alloc, &UNIFORM_WORDS)?);
     assert!(rt; holds(alloc, &LOOK_UP)?);
     Ok(())
 }
