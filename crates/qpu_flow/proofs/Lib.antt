@@ -1,1 +1,4 @@
 pub mod CodeLemmas
+pub mod OutsideLemmas
+pub mod FollowLemmas
+pub mod OneFollow

@@ -17,3 +17,11 @@ pub record IsFirstOutside (code : List ℕ) (at : ℕ) (fault : WordFault) : Typ
   pub there : at < length code
   pub outside : word_fault (slice_index code at) ≡ Some fault
   pub before : (k : ℕ) → k < at → IsInProfile (slice_index code k)
+
+-- one word at most is the first outside the profile, with one fault
+abbrev pub OneOutside : Type 0
+OneOutside = (code : List ℕ) (a b : ℕ) (f g : WordFault) → IsFirstOutside code a f → IsFirstOutside code b g → (a ≡ b) × (f ≡ g)
+
+-- none is where each word is in the profile
+abbrev pub NoneOutside : Type 0
+NoneOutside = (code : List ℕ) (at : ℕ) (fault : WordFault) → AllInProfile code → IsFirstOutside code at fault → ⊥

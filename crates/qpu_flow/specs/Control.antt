@@ -13,13 +13,8 @@ use Rattle.qpu_word.specs.Instruction.{link_of, is_link_point}
 use Rattle.qpu_word.specs.declared.code.TheConstants.{BRANCH_ALWAYS}
 use Rattle.qpu_flow.specs.declared.slots.Slots.{Slots}
 use Rattle.qpu_flow.specs.declared.slots.Successors.{Successors}
-use Rattle.qpu_flow.specs.declared.control.Control.{Control}
-use Rattle.qpu_flow.specs.declared.control.Progress.{Progress}
-use Rattle.qpu_flow.specs.declared.control.Progress.TheVariants.{Straight, Ending, To}
 use Rattle.qpu_flow.specs.declared.control.Target.{Target}
 use Rattle.qpu_flow.specs.declared.control.Target.TheVariants.{Byte, AnyLink as ToAnyLink}
-use Rattle.qpu_flow.specs.declared.control.Next.{Next}
-use Rattle.qpu_flow.specs.declared.control.Next.TheVariants.{At, AnyLink, Ended, Outside}
 use Rattle.qpu_flow.specs.Code.{fields_at, AllInProfile}
 
 -- branches
@@ -35,6 +30,10 @@ is_register_branch f = f.reg == 1
 -- the target of a branch at a place that adds no row, in bytes
 unfoldable pub plain_target : ℕ → Fields → ℕ
 plain_target at f = low32 (f.immediate + (if f.rel == 1 then link_of at else 0))
+
+-- where a taken branch at a place goes
+abbrev pub target_from : ℕ → Fields → Target
+target_from at f = if is_register_branch f then ToAnyLink else Byte (plain_target at f)
 
 -- a byte address at which a word of the program stands
 abbrev pub is_word_byte : List ℕ → ℕ → Bool
@@ -119,38 +118,3 @@ is_no_word code (Some byte) = not (is_word_byte code byte)
 -- successors ask for an address that is no word of the program
 abbrev pub leads_out : List ℕ → Successors → Bool
 leads_out code next = is_past code next.ahead || is_no_word code next.jump
-
--- control with its choices made
-
--- control goes on to a place, where a word stands there
-abbrev pub going : List ℕ → ℕ → Progress → Next
-going code place rest = if nat_lt place (length code) then At (record { place = place; rest = rest }) else Outside
-
--- control arrives at a target
-abbrev pub arrived : List ℕ → Target → Next
-arrived code ToAnyLink = AnyLink
-arrived code (Byte byte) =
-    if is_word_byte code byte then At (record { place = byte / INSTRUCTION_BYTES; rest = Straight }) else Outside
-
--- control after a word that is no branch and no program end
-abbrev pub gone_on : List ℕ → Progress → ℕ → Next
-gone_on code Straight at = going code (at + 1) Straight
-gone_on code (Ending slots) at = if nat_lt slots 2 then Ended else going code (at + 1) (Ending (slots - 1))
-gone_on code (To slots target) at =
-    if nat_lt slots 2 then arrived code target else going code (at + 1) (To (slots - 1) target)
-
--- where a taken branch at a place goes
-abbrev pub target_from : ℕ → Fields → Target
-target_from at f = if is_register_branch f then ToAnyLink else Byte (plain_target at f)
-
--- what is in progress after a branch; one that isn't taken goes straight on
-abbrev pub branched : ℕ → Fields → Bool → Progress
-branched at f taken = if is_always f || taken then To BRANCH_SLOTS (target_from at f) else Straight
-
--- control after the word at its place
-abbrev pub follow : List ℕ → Control → Bool → Next
-follow code control taken =
-    if is_branch (fields_at code control.place) then
-    going code (control.place + 1) (branched control.place (fields_at code control.place) taken)
-    else if is_program_end (fields_at code control.place) then going code (control.place + 1) (Ending END_SLOTS)
-    else gone_on code control.rest control.place

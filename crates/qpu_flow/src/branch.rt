@@ -1,6 +1,7 @@
 //! What a branch's fields say of its ways.
 ghost use Rattle.std.specs.Prelude.{◌≡◌, ◌<◌};
-ghost use Rattle.qpu_flow.specs.Control.{is_always, is_register_branch, plain_target, target_from, branched};
+ghost use Rattle.qpu_flow.specs.Control.{is_always, is_register_branch, plain_target, target_from};
+ghost use Rattle.qpu_flow.specs.Steps.{branched};
 
 use crate::control::{Progress, Target};
 use qpu_word::Fields;

@@ -8,11 +8,13 @@
 mod branch;
 mod control;
 mod flow;
+mod laws;
 mod slots;
 mod ways;
 
 pub use control::{Control, Next, Progress, Target};
 pub use flow::{Flow, FlowFault, first_outside};
+pub use laws::{one_answer_follows, one_word_is_first_outside};
 pub use slots::{Slots, Successors};
 
 #[cfg(test)]

@@ -1,7 +1,10 @@
 //! Where control goes after a word: with its choices made, and with all of them open.
-ghost use Rattle.std.specs.Prelude.{◌≡◌, ◌<◌, ◌/◌, length, IfSome, IsTrue};
+ghost use Rattle.std.specs.Prelude.{◌≡◌, ◌<◌, ◌/◌, length, Option, IfSome, IsTrue};
 ghost use Rattle.std.specs.Option.{SomeIff};
-ghost use Rattle.qpu_flow.specs.Control.{is_word_byte, one_less, slots_after, after_branch, after_last_slot, next_from, is_past, is_no_word, leads_out, going, arrived, gone_on, follow};
+ghost use Rattle.qpu_flow.specs.declared.slots.Slots.{Slots};
+ghost use Rattle.qpu_flow.specs.Control.{is_word_byte, one_less, slots_after, after_branch, after_last_slot, next_from, is_past, is_no_word, leads_out};
+ghost use Rattle.qpu_flow.specs.Follow.{RestIs, Follows};
+ghost use Rattle.qpu_flow.specs.Steps.{going, arrived, gone_on, follow};
 
 use crate::branch::{branched, is_always, is_register, plain_target};
 use crate::control::{Control, Next, Progress, Target};
@@ -201,11 +204,8 @@ impl Flow {
         }
     }
 
-    /// Control after the word at its place, which is a word of the program. An unconditional branch
-    /// goes its way whatever `taken` is. `AnyLink` is where the last slot of a taken register branch
-    /// was executed, `Ended` where that of program end was, and `Outside` where no word stands at
-    /// the address that comes next.
-    pub fn follow(&self, control: Control, taken: bool) -> Next
+    /// Control after the word at its place.
+    fn stepped(&self, control: Control, taken: bool) -> Next
         requires { control.place < length self.now }
         ensures { result ≡ follow self.now control taken }
     {
@@ -218,5 +218,17 @@ impl Flow {
             return self.going(control.place + 1, Progress::Ending(END_SLOTS));
         }
         self.gone_on(control.rest, control.place)
+    }
+
+    /// Control after the word at its place, which is a word of the program. The clause speaks of what
+    /// is in progress in the slots of one of its branches or program ends. An unconditional branch
+    /// goes its way whatever `taken` is. `AnyLink` is where the last slot of a taken register branch
+    /// was executed, `Ended` where that of program end was, and `Outside` where no word stands at
+    /// the address that comes next.
+    pub fn follow(&self, control: Control, taken: bool) -> Next
+        requires { control.place < length self.now }
+        ensures { (slots : Option Slots) → RestIs self.now slots control.rest → Follows self.now slots control taken result }
+    {
+        self.stepped(control, taken)
     }
 }

@@ -10,3 +10,4 @@ pub mod StandLemmas
 pub mod HoldLemmas
 pub mod ProcessorLemmas
 pub mod MaskLemmas
+pub mod FirstLemmas

@@ -1,7 +1,7 @@
--- A processor of a clean program stays on a path, by what control does.
-use Rattle.std.proofs.Common.{◌≡◌, ℕ, ◌+◌, ◌-◌, ◌/◌, ◌%◌, ◌==◌, ◌<◌, ◌≤◌, Bool, true, false, not, ◌&&◌, ◌||◌, List, [], ◌∷◌, length, Option, Some, None, refl, ap, sym, ◌∙◌, subst, inl, inr, true≢false, arith}
-use Rattle.std.specs.Prelude.{IsTrue, nat_lt, if◌then◌else◌}
-use Rattle.std.proofs.lemmas.Bool.{eqb-true}
+-- A processor of a clean program stays on a path, since no way of its words leads out.
+use Rattle.std.proofs.Common.{◌≡◌, ℕ, ◌+◌, ◌-◌, ◌*◌, ◌/◌, ◌%◌, ◌==◌, ◌<◌, Bool, true, false, not, ◌&&◌, ◌||◌, List, [], ◌∷◌, length, Option, Some, None, refl, ap, sym, ◌∙◌, subst, inl, inr, true≢false, arith}
+use Rattle.std.specs.Prelude.{nat_lt, nat_le, if◌then◌else◌}
+use Rattle.std.proofs.lemmas.Bool.{eq-eqb, eqb-true}
 use Rattle.std.proofs.lemmas.Bool.Decides.{nat_tests}
 use Rattle.qpu_word.specs.declared.word.Fields.{Fields}
 use Rattle.qpu_word.specs.declared.state.Flags.{Flags}
@@ -16,16 +16,15 @@ use Rattle.qpu_word.specs.Operations.{low32}
 use Rattle.qpu_word.specs.Processor.{ProcessorState}
 use Rattle.qpu_word.specs.Instruction.{is_taken, target_of, link_of, branch_fails, rest_later, rest_after, place_later, place_after, halt_later, halt_after, is_link_point}
 use Rattle.qpu_flow.specs.declared.slots.Slots.{Slots}
-use Rattle.qpu_flow.specs.declared.control.Progress.{Progress}
-use Rattle.qpu_flow.specs.declared.control.Progress.TheVariants.{Straight, Ending, To}
-use Rattle.qpu_flow.specs.declared.control.Target.TheVariants.{Byte, AnyLink as ToAnyLink}
-use Rattle.qpu_flow.specs.declared.control.Next.TheVariants.{At, AnyLink, Ended, Outside}
+use Rattle.qpu_flow.specs.declared.slots.Successors.{Successors}
 use Rattle.qpu_flow.specs.Code.{fields_at}
-use Rattle.qpu_flow.specs.Control.{one_less, is_always, is_register_branch, plain_target, target_from, branched, is_word_byte, going, arrived, gone_on, follow}
+use Rattle.qpu_flow.specs.Control.{nowhere, one_less, is_always, is_register_branch, plain_target, is_word_byte, after_branch, next_from, asks_for, leads_to, leads_out, is_past, is_no_word}
+use Rattle.qpu_flow.proofs.FollowLemmas.{slots_branch, slots_end, slots_plain, less_none, less_some, zero_false, lt_two, ge_two, next_ended, next_straight, after_last_branch, after_last_end, no_branch, untaken, untaken_ahead, whole_bytes}
 use Rattle.qpu_hazard.specs.Paths.{IsPath, IsClean, follows, slots_of}
-use Rattle.qpu_hazard.specs.Standing.{RestIs, Stands, Goes, IsTargetOf, ProcessorRestIs, ProcessorStands, ProcessorGoes}
-use Rattle.qpu_hazard.proofs.Basics.{and_second}
-use Rattle.qpu_hazard.proofs.StandLemmas.{opens, stays_on, slots_branch, slots_plain, less_some}
+use Rattle.qpu_hazard.specs.Standing.{IsTargetOf, ProcessorRestIs, ProcessorStands, ProcessorGoes}
+use Rattle.qpu_hazard.proofs.Basics.{and_first, and_second, or_first, or_second, or_left, or_right}
+use Rattle.qpu_hazard.proofs.StepLemmas.{leads_by, link_there}
+use Rattle.qpu_hazard.proofs.StandLemmas.{opens, stays_inside}
 
 no_more : (base more : ℕ) → more ≡ 0 → base + more ≡ base
 no_more base more none = omega (arith, none)
@@ -42,24 +41,6 @@ not_false_then false e = cc
 both_true : (a b : Bool) → a ≡ true → b ≡ true → (a && b) ≡ true
 both_true true b x y = y
 both_true false b x y = absurd (true≢false (sym x))
-
-ge_two : (n : ℕ) → nat_lt n 2 ≡ false → 2 ≤ n
-ge_two n test = grind (arith, nat_tests)
-
--- where control goes on to a place, it stands there
-stands_going : (code t : List ℕ) (place : ℕ) (rest : Progress) → Goes code t (going code place rest) → Stands code t (record { place = place; rest = rest })
-stands_going code t place rest goes = by_test (nat_lt place (length code)) goes
-  where
-    by_test : (b : Bool) → Goes code t (if b then At (record { place = place; rest = rest }) else Outside) → Stands code t (record { place = place; rest = rest })
-    by_test true goes = goes
-    by_test false goes = absurd goes
-
-stands_arrived : (code t : List ℕ) (byte : ℕ) → Goes code t (arrived code (Byte byte)) → Stands code t (record { place = byte / 8; rest = Straight })
-stands_arrived code t byte goes = by_test (is_word_byte code byte) goes
-  where
-    by_test : (b : Bool) → Goes code t (if b then At (record { place = byte / 8; rest = Straight }) else Outside) → Stands code t (record { place = byte / 8; rest = Straight })
-    by_test true goes = goes
-    by_test false goes = absurd goes
 
 -- a condition that is always holds
 always_holds : (f : Fields) (flags : Flags) → is_always f ≡ true → branch_test f.cond_br flags ≡ true
@@ -107,116 +88,184 @@ fits_branch : (code : List ℕ) (p : ProcessorState) (taken : Bool) → is_branc
 fits_branch code p true branches taken holds = (refl, omega arith, branches, target_of_branch code p (is_register_branch (fields_at code p.place)) refl holds taken)
 fits_branch code p false branches taken holds = inr (branches, not_always (fields_at code p.place) p (is_always (fields_at code p.place)) refl branches taken)
 
--- the control of a processor
-control_rest : List ℕ → Option Slots → ProcessorRest → Progress
-control_rest code slots RunsOn = Straight
-control_rest code slots (Ends left) = Ending left
-control_rest code None (GoesTo left place) = Straight
-control_rest code (Some s) (GoesTo left place) = To left (target_from s.place (fields_at code s.place))
+-- the places that follow, where no way leads out
 
-control_fits : (code : List ℕ) (slots : Option Slots) (rest : ProcessorRest) → ProcessorRestIs code slots rest → RestIs code slots (control_rest code slots rest)
-unfolding control_rest
-control_fits code slots RunsOn fits = fits
-control_fits code slots (Ends left) fits = fits
-control_fits code None (GoesTo left place) fits = absurd fits
-control_fits code (Some s) (GoesTo left place) fits = (fits.0, fits.1, fits.2, refl)
+below_past : (n a : ℕ) → nat_le n a ≡ false → a < n
+below_past n a test = grind (arith, nat_tests)
 
--- a word that is no branch and no program end
-plain_goes : (code t : List ℕ) (slots : Option Slots) (rest : ProcessorRest) (a : ℕ) → ProcessorRestIs code slots rest
-    → slots_of code t ≡ one_less slots → Goes code t (gone_on code (control_rest code slots rest) a)
-    → ProcessorGoes code t (place_later rest a) (rest_later rest) (halt_later rest)
-unfolding control_rest
-plain_goes code t slots RunsOn a fits left goes =
-    let stands : Stands code t (record { place = a + 1; rest = Straight }) = stands_going code t (a + 1) Straight goes in
-    record { follows = stands.follows; fits = stands.rest }
-plain_goes code t slots (Ends n) a fits left goes = by_count (nat_lt n 2) goes
+below_true : (a n : ℕ) → nat_lt a n ≡ true → a < n
+below_true a n test = grind (arith, nat_tests)
+
+ahead_leads : (code : List ℕ) (next : Successors) (place : ℕ) → next.ahead ≡ Some place → leads_out code next ≡ false → leads_to code next place ≡ true
+ahead_leads code next place ahead inside =
+    let past : is_past code (Some place) ≡ false = subst (λ (o : Option ℕ). is_past code o ≡ false) ahead (or_left _ _ inside) in
+    let asks : asks_for next.ahead place ≡ true = subst (λ (o : Option ℕ). asks_for o place ≡ true) (sym ahead) (eq-eqb place place refl) in
+    leads_by code next place (below_past (length code) place past) (or_first _ _ (or_first _ _ asks))
+
+jump_leads : (code : List ℕ) (next : Successors) (byte : ℕ) → next.jump ≡ Some byte → leads_out code next ≡ false → leads_to code next (byte / 8) ≡ true
+jump_leads code next byte jumps inside =
+    let word : not (is_word_byte code byte) ≡ false = subst (λ (o : Option ℕ). is_no_word code o ≡ false) jumps (or_right (is_past code next.ahead) _ inside) in
+    let stands : is_word_byte code byte ≡ true = not_false_then (is_word_byte code byte) word in
+    let whole : byte ≡ 8 * (byte / 8) = whole_bytes byte (eqb-true (byte % 8) 0 (and_first (byte % 8 == 0) _ stands)) in
+    let asks : asks_for next.jump (8 * (byte / 8)) ≡ true = subst (λ (o : Option ℕ). asks_for o (8 * (byte / 8)) ≡ true) (sym jumps) (eq-eqb byte (8 * (byte / 8)) whole) in
+    leads_by code next (byte / 8) (below_true (byte / 8) (length code) (and_second (byte % 8 == 0) _ stands)) (or_first _ _ (or_second (asks_for next.ahead (byte / 8)) _ asks))
+
+link_leads : (code : List ℕ) (next : Successors) (at : ℕ) → next.any_link ≡ true → is_link_point code at ≡ true → leads_to code next at ≡ true
+link_leads code next at any point =
+    leads_by code next at (link_there code at point)
+    (or_second (asks_for next.ahead at || asks_for next.jump (8 * at)) _ (both_true next.any_link (is_link_point code at) any point))
+
+-- what a processor comes to, told by the slots after a word at a place
+
+abbrev ComesTo : List ℕ → Option Slots → ℕ → ℕ → ProcessorRest → Type 0
+ComesTo code slots a place rest = (leads_to code (next_from code slots (Some a)) place ≡ true) × ProcessorRestIs code slots rest
+
+comes_ahead : (code : List ℕ) (slots : Option Slots) (a : ℕ) (rest : ProcessorRest) → leads_out code (next_from code slots (Some a)) ≡ false
+    → (next_from code slots (Some a)).ahead ≡ Some (a + 1) → ProcessorRestIs code slots rest → ComesTo code slots a (a + 1) rest
+comes_ahead code slots a rest inside ahead fits = (ahead_leads code (next_from code slots (Some a)) (a + 1) ahead inside, fits)
+
+-- a word where nothing is in progress, or behind a branch that isn't taken
+runs_on : (code : List ℕ) (slots : Option Slots) (a : ℕ) → ProcessorRestIs code slots RunsOn → leads_out code (next_from code (one_less slots) (Some a)) ≡ false
+    → ComesTo code (one_less slots) a (a + 1) RunsOn
+runs_on code None a fits inside = comes_ahead code None a RunsOn inside refl tt
+runs_on code (Some s) a fits inside = by_count (s.left == 0) refl
   where
-    by_count : (b : Bool) → Goes code t (if b then Ended else going code (a + 1) (Ending (n - 1)))
-        → ProcessorGoes code t (a + 1) (if b then RunsOn else Ends (n - 1)) (if b then HasEnded else Going)
-    by_count true goes = goes
-    by_count false goes =
-        let stands : Stands code t (record { place = a + 1; rest = Ending (n - 1) }) = stands_going code t (a + 1) (Ending (n - 1)) goes in
-        record { follows = stands.follows; fits = stands.rest }
-plain_goes code t None (GoesTo n place) a fits left goes = absurd fits
-plain_goes code t (Some s) (GoesTo n place) a fits left goes = by_count (nat_lt n 2) refl goes
-  where
-    at_target : IsTargetOf code s.place place → Goes code t (arrived code (target_from s.place (fields_at code s.place))) → ProcessorStands code t place RunsOn
-    at_target (inl link) arrives =
-        let any : Goes code t AnyLink =
-        subst (λ (b : Bool). Goes code t (arrived code (if b then ToAnyLink else Byte (plain_target s.place (fields_at code s.place))))) link.0 arrives in
-        let stands : Stands code t (record { place = place; rest = Straight }) = any place link.1 in
-        record { follows = stands.follows; fits = stands.rest }
-    at_target (inr plain) arrives =
-        let byte : Goes code t (arrived code (Byte (plain_target s.place (fields_at code s.place)))) =
-        subst (λ (b : Bool). Goes code t (arrived code (if b then ToAnyLink else Byte (plain_target s.place (fields_at code s.place))))) plain.0 arrives in
-        let stands : Stands code t (record { place = plain_target s.place (fields_at code s.place) / 8; rest = Straight }) =
-        stands_arrived code t (plain_target s.place (fields_at code s.place)) byte in
-        record {
-          follows = subst (λ (x : ℕ). IsTrue (follows code t x)) (sym plain.1) stands.follows;
-          fits = stands.rest;
-        }
+    by_count : (b : Bool) → (s.left == 0) ≡ b → ComesTo code (one_less (Some s)) a (a + 1) RunsOn
+    by_count true is =
+        subst (λ (o : Option Slots). leads_out code (next_from code o (Some a)) ≡ false → ComesTo code o a (a + 1) RunsOn) (sym (less_none s (eqb-true s.left 0 is)))
+        (λ stays. comes_ahead code None a RunsOn stays refl tt) inside
+    by_count false is =
+        subst (λ (o : Option Slots). leads_out code (next_from code o (Some a)) ≡ false → ComesTo code o a (a + 1) RunsOn) (sym (less_some s (zero_false s.left is)))
+        (λ stays. comes_ahead code (Some (record s { left = s.left - 1 })) a RunsOn stays (untaken_ahead code s a (zero_false s.left is) fits) (inr (untaken code s (zero_false s.left is) fits))) inside
 
-    by_count : (b : Bool) → nat_lt n 2 ≡ b → Goes code t (if b then arrived code (target_from s.place (fields_at code s.place)) else going code (a + 1) (To (n - 1) (target_from s.place (fields_at code s.place))))
-        → ProcessorGoes code t (if b then place else a + 1) (if b then RunsOn else GoesTo (n - 1) place) Going
-    by_count true test goes = at_target fits.3 goes
-    by_count false test goes =
-        let stands : Stands code t (record { place = a + 1; rest = To (n - 1) (target_from s.place (fields_at code s.place)) }) =
-        stands_going code t (a + 1) (To (n - 1) (target_from s.place (fields_at code s.place))) goes in
-        let some : 0 < s.left = omega (arith, fits.0, fits.1) in
-        let lefts : s.left - 1 ≡ n - 1 = ap (λ (x : ℕ). x - 1) fits.0 in
+-- the target of a taken branch, behind its last slot
+at_target : (code : List ℕ) (s : Slots) (a place : ℕ) → s.left ≡ 0 → next_from code (Some s) (Some a) ≡ after_branch code s.place a
+    → leads_out code (next_from code (Some s) (Some a)) ≡ false → IsTargetOf code s.place place → ComesTo code (Some s) a place RunsOn
+at_target code s a place none is inside (inl link) =
+    (link_leads code (next_from code (Some s) (Some a)) place (ap (λ (x : Successors). x.any_link) is ∙ link.0) link.1, inl none)
+at_target code s a place none is inside (inr plain) =
+    let byte : ℕ = plain_target s.place (fields_at code s.place) in
+    let jumps : (next_from code (Some s) (Some a)).jump ≡ Some byte =
+    ap (λ (x : Successors). x.jump) is ∙ ap (λ (b : Bool). if b then None else Some byte) plain.0 in
+    (subst (λ (x : ℕ). leads_to code (next_from code (Some s) (Some a)) x ≡ true) (sym plain.1) (jump_leads code (next_from code (Some s) (Some a)) byte jumps inside), inl none)
+
+-- a word that is no branch and no program end, by what is in progress
+abbrev ByTest : Bool → Type 0 → Type 0 → Type 0
+ByTest true A B = A
+ByTest false A B = B
+
+abbrev GoesIn : List ℕ → Option Slots → ℕ → ProcessorRest → Type 0
+GoesIn code slots a RunsOn = ComesTo code slots a (a + 1) RunsOn
+GoesIn code slots a (Ends n) = ByTest (nat_lt n 2) (next_from code slots (Some a) ≡ nowhere) (ComesTo code slots a (a + 1) (Ends (n - 1)))
+GoesIn code slots a (GoesTo n place) = ByTest (nat_lt n 2) (ComesTo code slots a place RunsOn) (ComesTo code slots a (a + 1) (GoesTo (n - 1) place))
+
+plain_word : (code : List ℕ) (slots : Option Slots) (a : ℕ) (rest : ProcessorRest) → ProcessorRestIs code slots rest
+    → leads_out code (next_from code (one_less slots) (Some a)) ≡ false → GoesIn code (one_less slots) a rest
+plain_word code slots a RunsOn fits inside = runs_on code slots a fits inside
+plain_word code None a (Ends n) fits inside = absurd fits
+plain_word code (Some s) a (Ends n) fits inside =
+    subst (λ (o : Option Slots). leads_out code (next_from code o (Some a)) ≡ false → GoesIn code o a (Ends n)) (sym (less_some s (omega (arith, fits.0, fits.1))))
+    (λ stays. by_count (nat_lt n 2) refl stays) inside
+  where
+    by_count : (b : Bool) → nat_lt n 2 ≡ b → leads_out code (next_from code (Some (record s { left = s.left - 1 })) (Some a)) ≡ false
+        → ByTest b (next_from code (Some (record s { left = s.left - 1 })) (Some a) ≡ nowhere) (ComesTo code (Some (record s { left = s.left - 1 })) a (a + 1) (Ends (n - 1)))
+    by_count true test stays =
+        let none : s.left - 1 ≡ 0 = omega (arith, fits.0, lt_two n test) in
+        next_ended code (record s { left = s.left - 1 }) a none ∙ after_last_end code s.place a (no_branch (fields_at code s.place) fits.2)
+    by_count false test stays =
+        let more : 0 < s.left - 1 = omega (arith, fits.0, ge_two n test) in
+        let left : s.left - 1 ≡ n - 1 = ap (λ (x : ℕ). x - 1) fits.0 in
         let below : 0 < n - 1 = omega (arith, ge_two n test) in
-        record {
-          follows = stands.follows;
-          fits = subst (λ (o : Option Slots). ProcessorRestIs code o (GoesTo (n - 1) place)) (sym (left ∙ less_some s some)) (lefts, below, fits.2, fits.3);
-        }
+        comes_ahead code (Some (record s { left = s.left - 1 })) a (Ends (n - 1)) stays
+        (ap (λ (x : Successors). x.ahead) (next_straight code (record s { left = s.left - 1 }) a more)) (left, below, fits.2)
+plain_word code None a (GoesTo n place) fits inside = absurd fits
+plain_word code (Some s) a (GoesTo n place) fits inside =
+    subst (λ (o : Option Slots). leads_out code (next_from code o (Some a)) ≡ false → GoesIn code o a (GoesTo n place)) (sym (less_some s (omega (arith, fits.0, fits.1))))
+    (λ stays. by_count (nat_lt n 2) refl stays) inside
+  where
+    by_count : (b : Bool) → nat_lt n 2 ≡ b → leads_out code (next_from code (Some (record s { left = s.left - 1 })) (Some a)) ≡ false
+        → ByTest b (ComesTo code (Some (record s { left = s.left - 1 })) a place RunsOn) (ComesTo code (Some (record s { left = s.left - 1 })) a (a + 1) (GoesTo (n - 1) place))
+    by_count true test stays =
+        let none : s.left - 1 ≡ 0 = omega (arith, fits.0, lt_two n test) in
+        at_target code (record s { left = s.left - 1 }) a place none
+        (next_ended code (record s { left = s.left - 1 }) a none ∙ after_last_branch code s.place a fits.2) stays fits.3
+    by_count false test stays =
+        let more : 0 < s.left - 1 = omega (arith, fits.0, ge_two n test) in
+        let left : s.left - 1 ≡ n - 1 = ap (λ (x : ℕ). x - 1) fits.0 in
+        let below : 0 < n - 1 = omega (arith, ge_two n test) in
+        comes_ahead code (Some (record s { left = s.left - 1 })) a (GoesTo (n - 1) place) stays
+        (ap (λ (x : Successors). x.ahead) (next_straight code (record s { left = s.left - 1 }) a more)) (left, below, fits.2, fits.3)
+
+-- a processor that comes to a place by the slots of a path stands on it
+
+comes_stands : (code t : List ℕ) (a place : ℕ) (rest : ProcessorRest) → ComesTo code (slots_of code (a ∷ t)) a place rest → ProcessorStands code (a ∷ t) place rest
+unfolding follows
+comes_stands code t a place rest comes = record { follows = comes.0; fits = comes.1 }
+
+plain_goes : (code t : List ℕ) (a : ℕ) (rest : ProcessorRest) → GoesIn code (slots_of code (a ∷ t)) a rest
+    → ProcessorGoes code (a ∷ t) (place_later rest a) (rest_later rest) (halt_later rest)
+plain_goes code t a RunsOn goes = comes_stands code t a (a + 1) RunsOn goes
+plain_goes code t a (Ends n) goes = by_count (nat_lt n 2) goes
+  where
+    by_count : (b : Bool) → ByTest b (next_from code (slots_of code (a ∷ t)) (Some a) ≡ nowhere) (ComesTo code (slots_of code (a ∷ t)) a (a + 1) (Ends (n - 1)))
+        → ProcessorGoes code (a ∷ t) (a + 1) (if b then RunsOn else Ends (n - 1)) (if b then HasEnded else Going)
+    by_count true goes = goes
+    by_count false goes = comes_stands code t a (a + 1) (Ends (n - 1)) goes
+plain_goes code t a (GoesTo n place) goes = by_count (nat_lt n 2) goes
+  where
+    by_count : (b : Bool) → ByTest b (ComesTo code (slots_of code (a ∷ t)) a place RunsOn) (ComesTo code (slots_of code (a ∷ t)) a (a + 1) (GoesTo (n - 1) place))
+        → ProcessorGoes code (a ∷ t) (if b then place else a + 1) (if b then RunsOn else GoesTo (n - 1) place) Going
+    by_count true goes = comes_stands code t a place RunsOn goes
+    by_count false goes = comes_stands code t a (a + 1) (GoesTo (n - 1) place) goes
 
 -- any word that doesn't fault
+
+branch_goes : (code t : List ℕ) (p : ProcessorState) → is_branch (fields_at code p.place) ≡ true → branch_fails (is_link_point code) (fields_at code p.place) p ≡ false
+    → leads_out code (next_from code (slots_of code (p.place ∷ t)) (Some p.place)) ≡ false
+    → ProcessorStands code (p.place ∷ t) (p.place + 1) (if is_taken (fields_at code p.place) p then GoesTo 3 (target_of (fields_at code p.place) p / 8) else RunsOn)
+branch_goes code t p is holds inside =
+    let rest : ProcessorRest = if is_taken (fields_at code p.place) p then GoesTo 3 (target_of (fields_at code p.place) p / 8) else RunsOn in
+    comes_stands code t p.place (p.place + 1) rest
+    (subst (λ (o : Option Slots). leads_out code (next_from code o (Some p.place)) ≡ false → ComesTo code o p.place (p.place + 1) rest) (sym (slots_branch code (slots_of code t) p.place is))
+    (λ stays. comes_ahead code (Some (record { place = p.place; left = 3 })) p.place rest stays refl
+    (fits_branch code p (is_taken (fields_at code p.place) p) is refl holds)) inside)
+
+end_goes : (code t : List ℕ) (a : ℕ) → is_program_end (fields_at code a) ≡ true
+    → leads_out code (next_from code (slots_of code (a ∷ t)) (Some a)) ≡ false → ProcessorStands code (a ∷ t) (a + 1) (Ends 2)
+end_goes code t a ends inside =
+    comes_stands code t a (a + 1) (Ends 2)
+    (subst (λ (o : Option Slots). leads_out code (next_from code o (Some a)) ≡ false → ComesTo code o a (a + 1) (Ends 2)) (sym (slots_end code (slots_of code t) a ends))
+    (λ stays. comes_ahead code (Some (record { place = a; left = 2 })) a (Ends 2) stays refl (refl, omega arith, ends)) inside)
+
 pub processor_stays : (code t : List ℕ) (p : ProcessorState) → IsClean code → IsPath code t → ProcessorStands code t p.place p.rest
     → branch_fails (is_link_point code) (fields_at code p.place) p ≡ false
     → IsPath code (p.place ∷ t)
     × ProcessorGoes code (p.place ∷ t) (place_after (fields_at code p.place) p) (rest_after (fields_at code p.place) p) (halt_after (fields_at code p.place) p)
 unfolding place_after rest_after halt_after
-processor_stays code t p clean is_path stands holds = (both.0, by_branch (is_branch (fields_at code p.place)) refl)
+processor_stays code t p clean is_path stands holds = (further, by_branch (is_branch (fields_at code p.place)) refl)
   where
-    both : IsPath code (p.place ∷ t) × Goes code (p.place ∷ t) (follow code (record { place = p.place; rest = control_rest code (slots_of code t) p.rest }) (branch_test (fields_at code p.place).cond_br p.flags))
-    both = stays_on code t (record { place = p.place; rest = control_rest code (slots_of code t) p.rest }) (branch_test (fields_at code p.place).cond_br p.flags) clean is_path
-        (record { follows = stands.follows; rest = control_fits code (slots_of code t) p.rest stands.fits })
+    further : IsPath code (p.place ∷ t)
+    further = (is_path, clean t is_path, stands.follows)
 
-    goes_by : (b d : Bool) → is_branch (fields_at code p.place) ≡ b → is_program_end (fields_at code p.place) ≡ d
-        → Goes code (p.place ∷ t) (if b then going code (p.place + 1) (branched p.place (fields_at code p.place) (branch_test (fields_at code p.place).cond_br p.flags))
-        else (if d then going code (p.place + 1) (Ending 2) else gone_on code (control_rest code (slots_of code t) p.rest) p.place))
-    goes_by b d branches ends =
-        subst (λ (y : Bool). Goes code (p.place ∷ t) (if b then going code (p.place + 1) (branched p.place (fields_at code p.place) (branch_test (fields_at code p.place).cond_br p.flags))
-        else (if y then going code (p.place + 1) (Ending 2) else gone_on code (control_rest code (slots_of code t) p.rest) p.place))) ends
-        (subst (λ (x : Bool). Goes code (p.place ∷ t) (if x then going code (p.place + 1) (branched p.place (fields_at code p.place) (branch_test (fields_at code p.place).cond_br p.flags))
-        else (if is_program_end (fields_at code p.place) then going code (p.place + 1) (Ending 2) else gone_on code (control_rest code (slots_of code t) p.rest) p.place))) branches both.1)
+    inside : leads_out code (next_from code (slots_of code (p.place ∷ t)) (Some p.place)) ≡ false
+    inside = stays_inside code t p.place clean further
 
     by_end : (d : Bool) → is_branch (fields_at code p.place) ≡ false → is_program_end (fields_at code p.place) ≡ d
         → ProcessorGoes code (p.place ∷ t) (if d then p.place + 1 else place_later p.rest p.place) (if d then Ends 2 else rest_later p.rest) (if d then Going else halt_later p.rest)
-    by_end true none ends =
-        let now : Stands code (p.place ∷ t) (record { place = p.place + 1; rest = Ending 2 }) =
-        stands_going code (p.place ∷ t) (p.place + 1) (Ending 2) (goes_by false true none ends) in
-        record { follows = now.follows; fits = now.rest }
+    by_end true none ends = end_goes code t p.place ends inside
     by_end false none ends =
-        plain_goes code (p.place ∷ t) (slots_of code t) p.rest p.place stands.fits
-        (slots_plain code (slots_of code t) p.place none ends) (goes_by false false none ends)
+        let less : slots_of code (p.place ∷ t) ≡ one_less (slots_of code t) = slots_plain code (slots_of code t) p.place none ends in
+        plain_goes code t p.place p.rest
+        (subst (λ (o : Option Slots). GoesIn code o p.place p.rest) (sym less)
+        (plain_word code (slots_of code t) p.place p.rest stands.fits
+        (subst (λ (o : Option Slots). leads_out code (next_from code o (Some p.place)) ≡ false) less inside)))
 
     by_branch : (b : Bool) → is_branch (fields_at code p.place) ≡ b
         → ProcessorGoes code (p.place ∷ t) (if b || is_program_end (fields_at code p.place) then p.place + 1 else place_later p.rest p.place)
         (if b then (if is_taken (fields_at code p.place) p then GoesTo 3 (target_of (fields_at code p.place) p / 8) else RunsOn)
         else (if is_program_end (fields_at code p.place) then Ends 2 else rest_later p.rest))
         (if b || is_program_end (fields_at code p.place) then Going else halt_later p.rest)
-    by_branch true is =
-        let now : Stands code (p.place ∷ t) (record { place = p.place + 1; rest = branched p.place (fields_at code p.place) (branch_test (fields_at code p.place).cond_br p.flags) }) =
-        stands_going code (p.place ∷ t) (p.place + 1) (branched p.place (fields_at code p.place) (branch_test (fields_at code p.place).cond_br p.flags))
-        (goes_by true (is_program_end (fields_at code p.place)) is refl) in
-        record {
-          follows = now.follows;
-          fits =
-              subst (λ (o : Option Slots). ProcessorRestIs code o (if is_taken (fields_at code p.place) p then GoesTo 3 (target_of (fields_at code p.place) p / 8) else RunsOn))
-              (sym (slots_branch code (slots_of code t) p.place is))
-              (fits_branch code p (is_taken (fields_at code p.place) p) is refl holds);
-        }
+    by_branch true is = branch_goes code t p is holds inside
     by_branch false is = by_end (is_program_end (fields_at code p.place)) is refl
 
 -- before any word

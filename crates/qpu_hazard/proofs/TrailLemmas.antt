@@ -8,7 +8,8 @@ use Rattle.qpu_word.specs.Words.{writes, reads}
 use Rattle.qpu_flow.specs.Code.{fields_at}
 use Rattle.qpu_hazard.specs.Demands.{uniform_conflict}
 use Rattle.qpu_hazard.specs.Rules.{break_when, h4, rules_broken}
-use Rattle.qpu_hazard.specs.Paths.{earlier_of, broken, follows}
+use Rattle.qpu_hazard.specs.Paths.{broken, follows}
+use Rattle.qpu_hazard.specs.declared.trail.Trail.{Trail}
 use Rattle.qpu_hazard.specs.Trails.{trail, advance, follows_from, broken_from, remembered, forget, kept_trail, onward}
 
 no_conflict : (before f : Fields) → writes before WRITE_UNIFORMS_ADDRESS ≡ false → uniform_conflict before f ≡ false
@@ -25,14 +26,30 @@ pub h4_remembered : (code : List ℕ) (earlier : Option ℕ) (f : Fields) → h4
 h4_remembered code None f = refl
 h4_remembered code (Some a) f = remembered_word code a f (writes (fields_at code a) WRITE_UNIFORMS_ADDRESS) refl
 
+-- a trail that forgets
+
+pub follows_forgotten : (code : List ℕ) (r : Trail) (a : ℕ) → follows_from code (forget code r) a ≡ follows_from code r a
+unfolding follows_from forget
+follows_forgotten code r a = refl
+
+pub broken_forgotten : (code : List ℕ) (r : Trail) (a : ℕ) → broken_from code (forget code r) a ≡ broken_from code r a
+unfolding broken_from rules_broken forget
+broken_forgotten code r a = rw (h4_remembered code r.earlier (fields_at code a)) refl
+
+pub next_forgotten : (code : List ℕ) (r : Trail) (a : ℕ) → onward code (forget code r) a ≡ onward code r a
+unfolding onward forget advance
+next_forgotten code r a = refl
+
+-- the trail of a path, once it forgets
+
 pub broken_kept : (code t : List ℕ) (a : ℕ) → broken code (a ∷ t) ≡ broken_from code (kept_trail code t) a
-unfolding broken broken_from rules_broken kept_trail forget trail
-broken_kept code t a = rw (h4_remembered code (earlier_of t) (fields_at code a)) refl
+unfolding broken broken_from kept_trail trail
+broken_kept code t a = sym (broken_forgotten code (trail code t) a)
 
 pub follows_kept : (code t : List ℕ) (a : ℕ) → follows code t a ≡ follows_from code (kept_trail code t) a
-unfolding follows follows_from kept_trail forget trail
-follows_kept code t a = refl
+unfolding follows follows_from kept_trail trail
+follows_kept code t a = sym (follows_forgotten code (trail code t) a)
 
 pub kept_law : (code t : List ℕ) (a : ℕ) → kept_trail code (a ∷ t) ≡ onward code (kept_trail code t) a
-unfolding kept_trail onward forget advance trail
-kept_law code t a = refl
+unfolding kept_trail onward advance trail
+kept_law code t a = sym (next_forgotten code (trail code t) a)

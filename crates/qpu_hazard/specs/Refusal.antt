@@ -31,3 +31,7 @@ pub record IsFirst (code : List ℕ) (h : Hazard) : Type 0 where
 -- nothing is refusable
 abbrev pub NoneRefusable : List ℕ → Type 0
 NoneRefusable code = (h : Hazard) → IsRefusable code h → ⊥
+
+-- one hazard at most is first
+abbrev pub OneFirst : Type 0
+OneFirst = (code : List ℕ) (x y : Hazard) → IsFirst code x → IsFirst code y → x ≡ y

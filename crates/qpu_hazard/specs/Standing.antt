@@ -1,8 +1,8 @@
 -- Where a processor stands on a path: at a word that may follow, with a branch or program end in
 -- progress as the path leaves it, and its choice made. This project's own.
-use Rattle.std.specs.Prelude.{◌≡◌, ◌⊎◌, ◌<◌, ◌/◌, ℕ, true, false, List, Option, IfSome, IsSomeAnd, IsTrue}
+use Rattle.std.specs.Prelude.{◌≡◌, ◌⊎◌, ◌<◌, ◌/◌, ℕ, true, false, List, Option, IsSomeAnd, IsTrue}
 use Rattle.qpu_word.specs.declared.code.TheConstants.{INSTRUCTION_BYTES}
-use Rattle.qpu_word.specs.Words.{is_branch, is_program_end}
+use Rattle.qpu_word.specs.Words.{is_branch}
 use Rattle.qpu_word.specs.Instruction.{is_link_point}
 use Rattle.qpu_word.specs.declared.state.Rest.{Rest as ProcessorRest}
 use Rattle.qpu_word.specs.declared.state.Rest.TheVariants.{Straight as RunsOn, Ending as Ends, To as GoesTo}
@@ -10,26 +10,13 @@ use Rattle.qpu_word.specs.declared.state.Halt.{Halt}
 use Rattle.qpu_word.specs.declared.state.Halt.TheVariants.{Going, Ended as HasEnded, Faulted}
 use Rattle.qpu_flow.specs.declared.slots.Slots.{Slots}
 use Rattle.qpu_flow.specs.declared.control.Control.{Control}
-use Rattle.qpu_flow.specs.declared.control.Progress.{Progress}
-use Rattle.qpu_flow.specs.declared.control.Progress.TheVariants.{Straight, Ending, To}
+use Rattle.qpu_flow.specs.declared.control.Progress.TheVariants.{Straight, Ending}
 use Rattle.qpu_flow.specs.declared.control.Next.{Next}
 use Rattle.qpu_flow.specs.declared.control.Next.TheVariants.{At, AnyLink, Ended, Outside}
 use Rattle.qpu_flow.specs.Code.{fields_at}
-use Rattle.qpu_flow.specs.Control.{is_always, is_register_branch, plain_target, target_from, nowhere}
+use Rattle.qpu_flow.specs.Control.{is_register_branch, plain_target, nowhere}
+use Rattle.qpu_flow.specs.Follow.{RestIs}
 use Rattle.qpu_hazard.specs.Paths.{slots_of, next_of, follows}
-
--- what is in progress fits the slots that a path leaves: nothing where none are left to execute, or
--- after a branch that can be left untaken; program end, or a taken branch, with as many slots left
-abbrev pub RestIs : List ℕ → Option Slots → Progress → Type 0
-RestIs code slots Straight =
-    IfSome slots (λ s.
-    (s.left ≡ 0) ⊎ ((is_branch (fields_at code s.place) ≡ true) × (is_always (fields_at code s.place) ≡ false)))
-RestIs code slots (Ending left) =
-    IsSomeAnd slots (λ s. (s.left ≡ left) × (0 < left) × (is_program_end (fields_at code s.place) ≡ true))
-RestIs code slots (To left target) =
-    IsSomeAnd slots (λ s.
-    (s.left ≡ left) × (0 < left) × (is_branch (fields_at code s.place) ≡ true)
-    × (target ≡ target_from s.place (fields_at code s.place)))
 
 -- control stands on a path
 pub record Stands (code t : List ℕ) (c : Control) : Type 0 where

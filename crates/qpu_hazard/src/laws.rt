@@ -6,15 +6,18 @@ ghost use Rattle.qpu_word.specs.declared.state.Rest.TheVariants.{Straight as Run
 ghost use Rattle.qpu_word.specs.declared.traffic.Ins.{Ins};
 ghost use Rattle.qpu_word.specs.declared.word.Fields.{Fields};
 ghost use Rattle.qpu_flow.specs.Code.{fields_at};
-ghost use Rattle.qpu_flow.specs.Control.{follow};
+ghost use Rattle.qpu_flow.specs.Follow.{Follows};
 ghost use Rattle.qpu_flow.specs.declared.control.Control.{Control};
+ghost use Rattle.qpu_flow.specs.declared.control.Next.{Next};
 ghost use Rattle.qpu_flow.specs.declared.control.Progress.TheVariants.{Straight};
 ghost use Rattle.qpu_hazard.specs.Demands.{sets_flags};
 ghost use Rattle.qpu_hazard.specs.Holds.{WordHolds};
-ghost use Rattle.qpu_hazard.specs.Paths.{IsPath, IsClean, broken, carry_after, follows};
-ghost use Rattle.qpu_hazard.specs.Refusal.{NoneRefusable};
+ghost use Rattle.qpu_hazard.specs.Paths.{IsPath, IsClean, broken, carry_after, follows, slots_of};
+ghost use Rattle.qpu_hazard.specs.Refusal.{NoneRefusable, OneFirst};
+ghost use Rattle.qpu_hazard.specs.Faults.{NoFault, OneFault};
 ghost use Rattle.qpu_hazard.specs.Standing.{Stands, Goes, ProcessorStands, ProcessorGoes};
-ghost use Rattle.qpu_hazard.specs.Trails.{trail, advance, follows_from, broken_from};
+ghost use Rattle.qpu_hazard.specs.declared.trail.Trail.{Trail};
+ghost use Rattle.qpu_hazard.specs.Trails.{trail, advance, follows_from, broken_from, forget, onward};
 
 /// Which words may follow a path depends on its trail alone.
 #[tactic(auto, unfolding(crate::specs::Paths::follows, crate::specs::Trails::follows_from, crate::specs::Trails::trail))]
@@ -34,10 +37,32 @@ pub fn trails_tell_the_next_trail()
     ensures { (code t : List ℕ) (a : ℕ) → trail code (a ∷ t) ≡ advance code (trail code t) a }
 {}
 
+/// A trail that forgot the place of its last word but one, where that word didn't write the uniforms
+/// address, leads to the same words, the same breaks, and the same trail once it forgets.
+#[tactic(auto, using(crate::proofs::TrailLemmas::follows_forgotten, crate::proofs::TrailLemmas::broken_forgotten, crate::proofs::TrailLemmas::next_forgotten))]
+pub fn forgetting_changes_nothing()
+    ensures follows { (code : List ℕ) (r : Trail) (a : ℕ) → follows_from code (forget code r) a ≡ follows_from code r a }
+    ensures breaks { (code : List ℕ) (r : Trail) (a : ℕ) → broken_from code (forget code r) a ≡ broken_from code r a }
+    ensures next { (code : List ℕ) (r : Trail) (a : ℕ) → onward code (forget code r) a ≡ onward code r a }
+{}
+
 /// A program is clean exactly where nothing in it is refusable.
 pub fn clean_programs_are_not_refused()
     ensures clean { (code : List ℕ) → NoneRefusable code → IsClean code }
     ensures none { (code : List ℕ) → IsClean code → NoneRefusable code }
+{}
+
+/// Of a program one hazard at most is first.
+pub fn one_hazard_is_first()
+    ensures { OneFirst }
+{}
+
+/// Of a program one fault at most is due, want of memory aside. None is due where each word is in
+/// the profile and nothing is refusable, which is where `check` accepts.
+#[tactic(auto, using(crate::proofs::FirstLemmas::one_fault, crate::proofs::FirstLemmas::no_fault))]
+pub fn one_check_fault()
+    ensures one { OneFault }
+    ensures none { NoFault }
 {}
 
 /// A processor of a clean program stands on a path before any word.
@@ -48,7 +73,7 @@ pub fn opens_on_a_path()
 /// A processor of a clean program that stands on a path executes a word of a path, and stands on
 /// it afterwards, whichever way its branches go.
 pub fn stays_on_a_path()
-    ensures { (code t : List ℕ) (c : Control) (taken : Bool) → IsClean code → IsPath code t → Stands code t c → IsPath code (c.place ∷ t) × Goes code (c.place ∷ t) (follow code c taken) }
+    ensures { (code t : List ℕ) (c : Control) (taken : Bool) (next : Next) → IsClean code → IsPath code t → Stands code t c → Follows code (slots_of code t) c taken next → IsPath code (c.place ∷ t) × Goes code (c.place ∷ t) next }
 {}
 
 /// What holds of a word that may follow a path of a clean program.

@@ -1,14 +1,15 @@
 -- A job whose programs are clean is refused for nothing, and of one job one refusal at most is due.
-use Rattle.std.proofs.Common.{◌≡◌, ◌≢◌, ℕ, ◌⊎◌, ◌<◌, All, List, [], Option, Some, None, refl, ap, sym, subst, inl, inr, ◌∙◌, arith}
+use Rattle.std.proofs.Common.{◌≡◌, ◌≢◌, ℕ, ◌⊎◌, ◌<◌, All, List, [], refl, ap, sym, subst, inl, inr, ◌∙◌, arith}
 use Rattle.std.specs.List.{AllWithin}
 use Rattle.std.proofs.lemmas.Bool.{cases_order}
-use Rattle.qpu_word.specs.declared.fault.WordFault.{WordFault}
 use Rattle.qpu_token.specs.declared.fault.AsmFault.{AsmFault}
 use Rattle.qpu_flow.specs.Code.{AllInProfile, IsFirstOutside}
+use Rattle.qpu_flow.proofs.OutsideLemmas.{none_outside}
 use Rattle.qpu_hazard.specs.declared.breaks.Hazard.{Hazard}
 use Rattle.qpu_hazard.specs.declared.checked.CheckFault.{CheckFault}
 use Rattle.qpu_hazard.specs.declared.checked.CheckFault.TheVariants as check
-use Rattle.qpu_hazard.specs.Refusal.{NoneRefusable, NotAfter, IsFirst}
+use Rattle.qpu_hazard.specs.Refusal.{NoneRefusable, IsFirst}
+use Rattle.qpu_hazard.proofs.FirstLemmas.{hazard, none_first, same_outside, same_break}
 use Rattle.qpu_job.specs.declared.fault.JobFault.{JobFault}
 use Rattle.qpu_job.specs.declared.fault.JobFault.TheVariants as fault
 use Rattle.qpu_job.specs.Plan.{Plan}
@@ -37,16 +38,10 @@ due plan (fault.Place line) fails apart = absurd fails
 
 -- a clean job
 
-no_fault : {X : Type 0} (o : Option X) (x : X) → o ≡ None → o ≡ Some x → ⊥
-no_fault o x p q = absurd (let f : None ≡ Some x = sym p ∙ q in cc)
-
-pub outside_no_more : (code : List ℕ) (at : ℕ) (f : WordFault) → AllInProfile code → IsFirstOutside code at f → ⊥
-outside_no_more code at f inside outside = no_fault _ f (inside at outside.there) outside.outside
-
 never_checked : (codes : List (List ℕ)) (program : ℕ) (why : CheckFault) → All AllInProfile codes → All NoneRefusable codes → IsChecked codes program why → ⊥
-never_checked codes program (check.Word at f) inside clean checked = outside_no_more _ at f (inside program [] checked.0) checked.1
+never_checked codes program (check.Word at f) inside clean checked = none_outside _ at f (inside program [] checked.0) checked.1
 never_checked codes program (check.Hazard rule at before) inside clean checked =
-    clean program [] checked.0 (record { at = at; rule = rule; before = before }) checked.2.refusable
+    none_first _ (hazard at rule before) (clean program [] checked.0) checked.2
 never_checked codes program check.Memory inside clean checked = checked
 
 never_due : (plan : Plan) (codes : List (List ℕ)) (e : JobFault) → AreClean plan codes → Due plan e → ⊥
@@ -58,66 +53,7 @@ never_due plan codes e are (by_check program why is refused) =
 pub clean_jobs : CleanJobsAreAccepted
 clean_jobs plan codes e are fails apart = never_due plan codes e are (due plan e fails apart)
 
--- one refusal of the words of one program
-
-abbrev hazard : ℕ → ℕ → ℕ → Hazard
-hazard at rule before = record { at = at; rule = rule; before = before }
-
-same_break : (x y : Hazard) → NotAfter x y → NotAfter y x → x ≡ y
-same_break x y p q = both (at p q) (rule p q) (before p q)
-  where
-    at : NotAfter x y → NotAfter y x → x.at ≡ y.at
-    at (inl p) (inl q) = absurd (omega (arith, p, q))
-    at (inl p) (inr q) = sym q.0
-    at (inr p) q = p.0
-
-    rule : NotAfter x y → NotAfter y x → x.rule ≡ y.rule
-    rule (inl p) (inl q) = absurd (omega (arith, p, q))
-    rule (inl p) (inr q) = absurd (omega (arith, p, q.0))
-    rule (inr p) (inl q) = absurd (omega (arith, p.0, q))
-    rule (inr (e, inl p)) (inr (f, inl q)) = absurd (omega (arith, p, q))
-    rule (inr (e, inl p)) (inr (f, inr q)) = sym q.0
-    rule (inr (e, inr p)) q = p.0
-
-    before : NotAfter x y → NotAfter y x → x.before ≡ y.before
-    before (inl p) (inl q) = absurd (omega (arith, p, q))
-    before (inl p) (inr q) = absurd (omega (arith, p, q.0))
-    before (inr p) (inl q) = absurd (omega (arith, p.0, q))
-    before (inr (e, inl p)) (inr (f, inl q)) = absurd (omega (arith, p, q))
-    before (inr (e, inl p)) (inr (f, inr q)) = absurd (omega (arith, p, q.0))
-    before (inr (e, inr p)) (inr (f, inl q)) = absurd (omega (arith, p.0, q))
-    before (inr (e, inr p)) (inr (f, inr q)) = omega (arith, p.1, q.1)
-
-    both : x.at ≡ y.at → x.rule ≡ y.rule → x.before ≡ y.before → x ≡ y
-    both e f g = ap (λ (n : ℕ). hazard n x.rule x.before) e ∙ (ap (λ (n : ℕ). hazard y.at n x.before) f ∙ ap (λ (n : ℕ). hazard y.at y.rule n) g)
-
-no_hazard : (code : List ℕ) (h : Hazard) → NoneRefusable code → IsFirst code h → ⊥
-no_hazard code h none first = none h first.refusable
-
-pub same_hazard : (code : List ℕ) (x y : Hazard) → IsFirst code x → IsFirst code y → x ≡ y
-same_hazard code x y p q = same_break x y (p.least y q.refusable) (q.least x p.refusable)
-
-same_some : {X : Type 0} (o : Option X) (x y : X) → o ≡ Some x → o ≡ Some y → x ≡ y
-same_some o x y p q = let e : Some x ≡ Some y = sym p ∙ q in cc
-
-outside_at : (code : List ℕ) (a b : ℕ) (f g : WordFault) → IsFirstOutside code a f → IsFirstOutside code b g → a ≡ b
-outside_at code a b f g p q = by_order (cases_order a b)
-  where
-    by_order : (a ≡ b) ⊎ ((a < b) ⊎ (b < a)) → a ≡ b
-    by_order (inl e) = e
-    by_order (inr (inl low)) = absurd (no_fault _ f (q.before a low) p.outside)
-    by_order (inr (inr low)) = absurd (no_fault _ g (p.before b low) q.outside)
-
-outside_why : (code : List ℕ) (a : ℕ) (f g : WordFault) → IsFirstOutside code a f → IsFirstOutside code a g → f ≡ g
-outside_why code a f g p q = same_some _ f g p.outside q.outside
-
-pub same_outside : (code : List ℕ) (a b : ℕ) (f g : WordFault) → IsFirstOutside code a f → IsFirstOutside code b g → check.Word a f ≡ check.Word b g
-same_outside code a b f g p q =
-    let e : a ≡ b = outside_at code a b f g p q in
-    ap (λ (n : ℕ). check.Word n f) e
-    ∙ ap (λ (w : WordFault). check.Word b w) (outside_why code b f g (subst (λ (n : ℕ). IsFirstOutside code n f) e p) q)
-
--- and of all programs
+-- one refusal of the words of all programs
 
 -- of two programs that are the first for which something fails one can't be above the other
 same_place : (P : List ℕ → Type 0) (codes : List (List ℕ)) (k j : ℕ) → AllWithin P codes 0 k → AllWithin P codes 0 j
@@ -135,17 +71,16 @@ same_refusal k j why other e f = ap (λ (n : ℕ). fault.Check n why) e ∙ ap (
 one_check : (codes : List (List ℕ)) (k j : ℕ) (why other : CheckFault) → IsChecked codes k why → IsChecked codes j other → fault.Check k why ≡ fault.Check j other
 one_check codes k j (check.Word at f) (check.Word bt g) p q =
     let e : k ≡ j =
-    same_place AllInProfile codes k j p.2 q.2 (λ inside. outside_no_more _ at f inside p.1) (λ inside. outside_no_more _ bt g inside q.1) in
+    same_place AllInProfile codes k j p.2 q.2 (λ inside. none_outside _ at f inside p.1) (λ inside. none_outside _ bt g inside q.1) in
     same_refusal k j _ _ e (same_outside (code_at codes j) at bt f g (subst (λ (n : ℕ). IsFirstOutside (code_at codes n) at f) e p.1) q.1)
-one_check codes k j (check.Word at f) (check.Hazard rule bt before) p q = absurd (outside_no_more _ at f (q.1 k [] p.0) p.1)
-one_check codes k j (check.Hazard rule at before) (check.Word bt g) p q = absurd (outside_no_more _ bt g (p.1 j [] q.0) q.1)
+one_check codes k j (check.Word at f) (check.Hazard rule bt before) p q = absurd (none_outside _ at f (q.1 k [] p.0) p.1)
+one_check codes k j (check.Hazard rule at before) (check.Word bt g) p q = absurd (none_outside _ bt g (p.1 j [] q.0) q.1)
 one_check codes k j (check.Hazard rule at before) (check.Hazard rule' bt before') p q =
     let x : Hazard = hazard at rule before in
     let y : Hazard = hazard bt rule' before' in
     let e : k ≡ j =
-    same_place NoneRefusable codes k j p.3 q.3 (λ none. no_hazard _ x none p.2) (λ none. no_hazard _ y none q.2) in
-    let h : x ≡ y = same_hazard (code_at codes j) x y (subst (λ (n : ℕ). IsFirst (code_at codes n) x) e p.2) q.2 in
-    same_refusal k j _ _ e (ap (λ (h : Hazard). check.Hazard h.rule h.at h.before) h)
+    same_place NoneRefusable codes k j p.3 q.3 (λ none. none_first _ x none p.2) (λ none. none_first _ y none q.2) in
+    same_refusal k j _ _ e (same_break (code_at codes j) x y (subst (λ (n : ℕ). IsFirst (code_at codes n) x) e p.2) q.2)
 one_check codes k j check.Memory other p q = absurd p
 one_check codes k j (check.Word at f) check.Memory p q = absurd q
 one_check codes k j (check.Hazard rule at before) check.Memory p q = absurd q

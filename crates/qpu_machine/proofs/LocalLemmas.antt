@@ -20,7 +20,8 @@ use Rattle.qpu_shared.specs.declared.pending.Pending.{Pending}
 use Rattle.qpu_shared.specs.SharedState.{SharedState, nothing_pending}
 use Rattle.qpu_shared.specs.Instruction.{Outcome, is_running, instruction, pending_of}
 use Rattle.qpu_shared.specs.Exec.{Does}
-use Rattle.qpu_shared.proofs.LocalLemmas.{local_outcome, outcome_local, instruction_local}
+use Rattle.qpu_shared.specs.Local.{local_outcome}
+use Rattle.qpu_shared.proofs.LocalLemmas.{outcome_local, instruction_local}
 use Rattle.qpu_hazard.specs.Paths.{IsClean}
 use Rattle.qpu_machine.specs.declared.actor.Actor.TheVariants.{Exec}
 use Rattle.qpu_machine.specs.Machine.{MachineState, processor_of, words_of, with_both, after_outcome, after_step, Step}

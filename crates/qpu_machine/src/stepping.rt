@@ -4,7 +4,7 @@ ghost use Rattle.qpu_word.specs.declared.state.Halt.TheVariants.{Going};
 ghost use Rattle.qpu_word.specs.Words.{fields_of, is_local, IsInProfile};
 ghost use Rattle.qpu_word.specs.Instruction.{is_link_point, local_result};
 ghost use Rattle.qpu_shared.specs.SharedState.{SharedState};
-ghost use Rattle.qpu_shared.proofs.LocalLemmas.{local_outcome};
+ghost use Rattle.qpu_shared.specs.Local.{local_outcome};
 ghost use Rattle.qpu_shared.specs.Instruction.{first_cause, instruction_result, outcome_under, is_running, pending_of};
 ghost use Rattle.qpu_shared.specs.Exec.{Does};
 ghost use Rattle.qpu_machine.specs.Kept.{IsOnPath, KeepsPath};

@@ -5,3 +5,4 @@ pub mod PendingLemmas
 pub mod ExecLemmas
 pub mod MoveLemmas
 pub mod MeaningLaw
+pub mod LocalFaults

@@ -16,7 +16,8 @@ use Rattle.qpu_shared.specs.declared.cause.Cause.TheVariants.{LoadWait, StoreWai
 use Rattle.qpu_shared.specs.declared.pending.Pending.{Pending}
 use Rattle.qpu_shared.specs.declared.starts.Begun.{Begun}
 use Rattle.qpu_shared.specs.SharedState.{SharedState}
-use Rattle.qpu_shared.specs.Instruction.{Outcome, Faults, Done, awaits, first_cause, ins_of, after_reads, after_writes, shared_after, mutex_after, semaphores_after, pending_after, pending_of, instruction_result, outcome_of, outcome_under, is_running, instruction}
+use Rattle.qpu_shared.specs.Local.{local_outcome}
+use Rattle.qpu_shared.specs.Instruction.{Done, awaits, first_cause, ins_of, after_reads, after_writes, shared_after, mutex_after, semaphores_after, pending_after, pending_of, instruction_result, outcome_of, outcome_under, is_running, instruction}
 
 and_left : (a b : Bool) → a ≡ false → (a && b) ≡ false
 and_left a b none = rw none refl
@@ -43,6 +44,9 @@ no_await f q h a n m = (
 pub no_cause : (f : Fields) (q : ℕ) (h : SharedState) → IsAlone f → first_cause f q h ≡ None
 unfolding first_cause
 no_cause f q h a = let t = no_await f q h a f.number f.number in rw (t.0, t.1, t.2, t.3, t.4, t.5, t.6, t.7, t.8) refl
+
+pub awaits_nothing : (word q : ℕ) (h : SharedState) → is_local (fields_of word) ≡ true → first_cause (fields_of word) q h ≡ None
+awaits_nothing word q h local = no_cause (fields_of word) q h (alone (fields_of word) local)
 
 -- it reads nothing
 pub no_reads : (f : Fields) (p : ProcessorState) (h : SharedState) → IsAlone f → ins_of f p h ≡ no_ins
@@ -134,11 +138,6 @@ unfolding shared_after pending_after
 same_shared f p outs book h a is =
     rw (is.vpm, same_mutex f p.q h.mutex a, same_semaphores f h.semaphores a, same_pending f outs book (pending_of h p.q) a, set-get_or h.pending p.q _) refl
 
--- the outcome of what a local word makes of its processor
-abbrev pub local_outcome : Result ProcessorState FaultKind → SharedState → Outcome
-local_outcome (Ok p) h = Done p h
-local_outcome (Err kind) h = Faults kind
-
 -- the same result, whether the shared parts stand beside it or not
 beside : (r : Result Book FaultKind) (f : Fields) (p : ProcessorState) (outs : Outs) (h : SharedState) → IsAlone f → IsPlainOuts outs
     → outcome_of (then_after (then_after r (λ c. Ok (plain_starts outs c))) (λ starts. Ok (done f p no_ins starts.book, shared_after f p outs starts h)))
@@ -165,7 +164,7 @@ local_comes is_link word p h false fails a =
 pub outcome_local : (is_link : ℕ → Bool) (word : ℕ) (p : ProcessorState) (h : SharedState) → is_local (fields_of word) ≡ true
     → outcome_under (first_cause (fields_of word) p.q h) (instruction_result is_link word p h) ≡ local_outcome (local_result is_link word p) h
 outcome_local is_link word p h local =
-    let a = alone (fields_of word) local in rw (no_cause (fields_of word) p.q h a) (local_comes is_link word p h _ refl a)
+    rw (awaits_nothing word p.q h local) (local_comes is_link word p h _ refl (alone (fields_of word) local))
 
 -- the whole instruction of a running processor at a local word
 pub instruction_local : (words : List ℕ) (limit : ℕ) (p : ProcessorState) (h : SharedState)

@@ -4,3 +4,4 @@ pub mod Moves
 pub mod Views
 pub mod Exec
 pub mod Free
+pub mod Local

@@ -17,5 +17,5 @@ mod starts;
 
 pub use cause::Cause;
 pub use did::Did;
-pub use laws::canonical_words_have_one_meaning;
+pub use laws::{canonical_words_have_one_meaning, local_words_touch_their_processor_alone};
 pub use shared::Shared;

@@ -4,8 +4,6 @@ use Rattle.std.specs.Prelude.{position}
 use Rattle.qpu_io.specs.Output.{Output, appended}
 use Rattle.qpu_word.specs.declared.fault.WordFault.{WordFault}
 use Rattle.qpu_flow.specs.Code.{AllInProfile}
-use Rattle.qpu_hazard.specs.declared.checked.CheckFault.{CheckFault}
-use Rattle.qpu_hazard.specs.declared.checked.CheckFault.TheVariants as check
 use Rattle.qpu_hazard.specs.Refusal.{NoneRefusable}
 use Rattle.qpu_hazard.specs.Faults.{IsCheckFault}
 use Rattle.qpu_tool.specs.declared.status.Status.{Status}
@@ -53,13 +51,3 @@ accepted_it text answer held held' status ascii (misspelled fault is none) e all
 accepted_it text answer held held' status ascii (hazardous words fault due is none) e all of = absurd (subst IsOfRun e of)
 accepted_it text answer held held' status ascii (accepted words due inside clean) e all of =
     (e, record { words = words; ascii = ascii; are_due = due; inside = inside; clean = clean; printed = all })
-
--- a program of the profile, no path of which breaks a rule, is refused for nothing
-
-no_fault : (o : Option WordFault) (e : WordFault) → o ≡ None → o ≡ Some e → ⊥
-no_fault o e none is = absurd (let f : None ≡ Some e = sym none ∙ is in cc)
-
-pub not_outside : (words : List ℕ) (fault : CheckFault) → AllInProfile words → NoneRefusable words → IsCheckFault words fault → fault ≢ check.Memory → ⊥
-not_outside words (check.Word at fault) inside clean is none = no_fault _ fault (inside at is.there) is.outside
-not_outside words (check.Hazard rule at before) inside clean is none = clean _ is.1.refusable
-not_outside words check.Memory inside clean is none = none refl

@@ -1,18 +1,15 @@
 -- Of the answers to assembly text, and to words, one at most is due.
-use Rattle.std.proofs.Common.{◌≡◌, ◌≢◌, ℕ, List, Result, Ok, Err, refl, ap, sym, subst, ◌∙◌}
+use Rattle.std.proofs.Common.{◌≡◌, ℕ, List, Result, Ok, Err, refl, ap, sym, subst, ◌∙◌}
 use Rattle.qpu_token.specs.declared.fault.AsmFault.{AsmFault}
 use Rattle.qpu_asm.specs.Assembly.{IsAssembly}
 use Rattle.qpu_asm.specs.HexLines.{hex_words}
 use Rattle.qpu_asm.proofs.OneAssembly.{one_assembly}
-use Rattle.qpu_hazard.specs.declared.breaks.Hazard.{Hazard}
 use Rattle.qpu_hazard.specs.declared.checked.CheckFault.{CheckFault}
-use Rattle.qpu_hazard.specs.declared.checked.CheckFault.TheVariants as check
 use Rattle.qpu_hazard.specs.Faults.{IsCheckFault}
-use Rattle.qpu_job.proofs.OneMachineLaw.{outside_no_more, same_hazard, same_outside}
+use Rattle.qpu_hazard.proofs.FirstLemmas.{no_fault, one_fault}
 use Rattle.qpu_tool.specs.Answer.{Answer}
 use Rattle.qpu_tool.specs.TextAnswers.{AsmAnswer, refused, assembled, DisAnswer, misread, told, CheckAnswer, misspelled, hazardous, accepted, asm_refusal, words_answer, lines_answer, check_refusal, accepted_answer}
 use Rattle.qpu_tool.proofs.AsmLemmas.{no_fault_due, same_due}
-use Rattle.qpu_tool.proofs.CheckLemmas.{not_outside}
 
 -- a result is one value or one error
 
@@ -46,19 +43,6 @@ one_dis text a b (told words due) (told other due') = ap (λ (w : List ℕ). lin
 
 -- the checker
 
-abbrev hazard : ℕ → ℕ → ℕ → Hazard
-hazard at rule before = record { at = at; rule = rule; before = before }
-
-one_broken : (code : List ℕ) (e f : CheckFault) → IsCheckFault code e → IsCheckFault code f → e ≢ check.Memory → f ≢ check.Memory → e ≡ f
-one_broken code (check.Word at w) (check.Word bt v) p q none none' = same_outside code at bt w v p q
-one_broken code (check.Word at w) (check.Hazard rule bt before) p q none none' = absurd (outside_no_more code at w q.0 p)
-one_broken code (check.Hazard rule at before) (check.Word bt v) p q none none' = absurd (outside_no_more code bt v p.0 q)
-one_broken code (check.Hazard rule at before) (check.Hazard rule' bt before') p q none none' =
-    ap (λ (h : Hazard). check.Hazard h.rule h.at h.before) (same_hazard code (hazard at rule before) (hazard bt rule' before') p.1 q.1)
-one_broken code check.Memory f p q none none' = absurd (none refl)
-one_broken code (check.Word at w) check.Memory p q none none' = absurd (none' refl)
-one_broken code (check.Hazard rule at before) check.Memory p q none none' = absurd (none' refl)
-
 -- words that are due are one, so what holds of them holds of the others
 
 along : (P : List ℕ → Type 0) (text words other : List ℕ) → IsAssembly text (Ok words) → IsAssembly text (Ok other) → P words → P other
@@ -71,11 +55,11 @@ one_checked text a b (misspelled f is none) (accepted words due inside clean) = 
 one_checked text a b (hazardous words e due is none) (misspelled f is' none') = absurd (no_fault_due text words f due is')
 one_checked text a b (hazardous words e due is none) (hazardous other f due' is' none') =
     ap (λ (x : CheckFault). check_refusal x)
-    (one_broken other e f (along (λ (w : List ℕ). IsCheckFault w e) text words other due due' is) is' none none')
+    (one_fault other e f (along (λ (w : List ℕ). IsCheckFault w e) text words other due due' is) is' none none')
 one_checked text a b (hazardous words e due is none) (accepted other due' inside clean) =
-    absurd (not_outside other e inside clean (along (λ (w : List ℕ). IsCheckFault w e) text words other due due' is) none)
+    absurd (no_fault other e inside clean (along (λ (w : List ℕ). IsCheckFault w e) text words other due due' is) none)
 one_checked text a b (accepted words due inside clean) (misspelled f is none) = absurd (no_fault_due text words f due is)
 one_checked text a b (accepted words due inside clean) (hazardous other e due' is none) =
-    absurd (not_outside words e inside clean (along (λ (w : List ℕ). IsCheckFault w e) text other words due' due is) none)
+    absurd (no_fault words e inside clean (along (λ (w : List ℕ). IsCheckFault w e) text other words due' due is) none)
 one_checked text a b (accepted words due inside clean) (accepted other due' inside' clean') =
     ap (λ (w : List ℕ). accepted_answer w) (same_due text other words due' due)
