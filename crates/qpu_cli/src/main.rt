@@ -2,29 +2,40 @@
 #![tactic(auto)]
 
 use qpu_io::{StdSink, StdSource};
-use qpu_tool::plain;
+use qpu_tool::{Status, plain};
+use qpu_word::NoMemory;
 use std::env;
+use std::io::ErrorKind;
 use std::process::ExitCode;
 use std::rt::Env;
 
-/// The words after the program's own name; none where they can't be read, which is no command.
-fn words<R: Env + AllocGlobal>(rt: &R) -> Vec<String> {
+/// The words after the program's own name; none where one of them isn't UTF-8, which is no command.
+/// The one error is want of memory.
+fn words<R: Env + AllocGlobal>(rt: &R) -> Result<Vec<String>, NoMemory> {
     let mut words = Vec::new(rt.alloc());
-    let Ok(arguments) = env::args(rt) else {
-        return words;
+    let arguments = match env::args(rt) {
+        Ok(arguments) => arguments,
+        Err(error) => {
+            return match error.kind() {
+                ErrorKind::InvalidData => Ok(words),
+                _ => Err(NoMemory),
+            };
+        }
     };
     for word in arguments.skip(1) {
         if words.push(word).is_err() {
-            return Vec::new(rt.alloc());
+            return Err(NoMemory);
         }
     }
-    words
+    Ok(words)
 }
 
 fn main(rt: HostRuntime) -> ExitCode {
     let mut source = StdSource::new(rt.stdin());
     let mut sink = StdSink::new(rt.stdout());
-    let words = words(&rt);
-    let status = plain(rt.alloc(), &words, &mut source, &mut sink);
+    let status = match words(&rt) {
+        Ok(words) => plain(rt.alloc(), &words, &mut source, &mut sink),
+        Err(NoMemory) => Status::NoMemory,
+    };
     ExitCode::from(status.code())
 }

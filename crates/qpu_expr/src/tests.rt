@@ -122,12 +122,6 @@ fn lines_of_no_shape_are_left_and_give_a_word(rt: HostRuntime) -> Result<(), Fai
         ),
         (":5 nop 1/0\n:", ": 5 nop 1 / 0 | : | "),
         (":a :b nop\n:c nop", ": a : b nop | nop | a=0 c=1 "),
-        (
-            ":a :b add r0, r0, 1/0",
-            ": a : b add r0 , r0 , 1 / 0 | a=0 ",
-        ),
-        (".foo; nop 1 + 1", ". foo ; nop 1 + 1 | "),
-        (".word 1; nop 1/0", ". word 1 ; nop 1 / 0 | "),
         (".foo 1/0\n:a nop", ". foo 1 / 0 | nop | a=1 "),
         (
             ".set x 5\n.set x, 1 +\n.set\n.set x, 2\n:a ldi r0, x",
@@ -265,8 +259,6 @@ fn names_that_are_there_twice_are_refused(rt: HostRuntime) -> Result<(), Fail> {
         (".set x, 1\n.set x, 1/0", 2, 6),
         (".macro m\n.endm\n.macro m", 3, 8),
         (".set m, 1\n:m .macro m, m\n.endm\nm 1\n:m", 5, 2),
-        (".macro t, d, d x\n.endm", 1, 14),
-        (".macro m\n.endm\n.macro m 5\n.endm", 3, 8),
     ] {
         let due = AsmFault {
             kind: AsmKind::Twice,
@@ -292,9 +284,6 @@ fn divisions_by_0_have_the_place_of_their_sign(rt: HostRuntime) -> Result<(), Fa
         (".set x, 5 % 0", 1, 11),
         (".macro m, p\nldi r0, 1 p\n.endm\nm / 0", 2, 11),
         ("ldi r0, 1 / 4294967295 / 2 ; nop 2 / (1 - 1)", 1, 36),
-        (".foo; add r0, r0, 1/0", 1, 20),
-        (":a :b; add r0, r0, 1/0", 1, 21),
-        (":; nop 1/0", 1, 9),
     ] {
         let due = AsmFault {
             kind: AsmKind::DivideByZero,
@@ -344,7 +333,6 @@ fn macros_have_a_shape(rt: HostRuntime) -> Result<(), Fail> {
     for (text, line, column) in [
         (".macro\n.endm", 1, 7),
         (".macro 5\n.endm", 1, 8),
-        (".macro 5, d, d x\n.endm", 1, 8),
         (".macro m p\n.endm", 1, 10),
         (".macro m,\n.endm", 1, 10),
         (" .macro m\nnop", 1, 2),
@@ -362,6 +350,38 @@ fn macros_have_a_shape(rt: HostRuntime) -> Result<(), Fail> {
             column,
         };
         assert!(rt; fault(rt.alloc(), text)? == due, "{text}");
+    }
+    Ok(())
+}
+
+#[test]
+fn malformed_lines_are_judged(rt: HostRuntime) -> Result<(), Fail> {
+    for (text, kind, line, column) in [
+        (".macro t, d, d x\n.endm", AsmKind::Twice, 1, 14),
+        (".macro m\n.endm\n.macro m 5\n.endm", AsmKind::Twice, 3, 8),
+        (".macro 5, d, d x\n.endm", AsmKind::Shape, 1, 8),
+        (".foo; add r0, r0, 1/0", AsmKind::DivideByZero, 1, 20),
+        (":a :b; add r0, r0, 1/0", AsmKind::DivideByZero, 1, 21),
+        (":; nop 1/0", AsmKind::DivideByZero, 1, 9),
+    ] {
+        let due = AsmFault { kind, line, column };
+        assert!(rt; fault(rt.alloc(), text)? == due, "{text}");
+    }
+    Ok(())
+}
+
+#[test]
+fn malformed_lines_are_left_as_they_are(rt: HostRuntime) -> Result<(), Fail> {
+    for (text, due) in [
+        (
+            ":a :b add r0, r0, 1/0",
+            ": a : b add r0 , r0 , 1 / 0 | a=0 ",
+        ),
+        (".foo; nop 1 + 1", ". foo ; nop 1 + 1 | "),
+        (".word 1; nop 1/0", ". word 1 ; nop 1 / 0 | "),
+    ] {
+        let found = shown(rt.alloc(), text)?;
+        assert!(rt; found.as_str() == due, "{text}: {found}");
     }
     Ok(())
 }

@@ -1,5 +1,5 @@
 //! What a line past the limit of tokens tells, read token by token.
-ghost use Rattle.std.specs.Prelude.{◌≡◌, IfOk, OnOk, drop, fold};
+ghost use Rattle.std.specs.Prelude.{◌≡◌, ◌≤◌, IfOk, OnOk, drop, fold};
 ghost use Rattle.qpu_expr.specs.Walks.{walked};
 ghost use Rattle.qpu_expr.specs.Settings.{expression};
 ghost use Rattle.qpu_expr.specs.Findings.{is_whole};
@@ -7,9 +7,7 @@ ghost use Rattle.qpu_expr.specs.Operands.{instruction_work};
 ghost use Rattle.qpu_expr.specs.Macros.{names_of};
 ghost use Rattle.qpu_expr.specs.Directives.{names_twice};
 ghost use Rattle.qpu_expr.specs.Forms.{is_form};
-ghost use Rattle.std.specs.Prelude.{◌+◌, ◌≤◌, is_some};
-ghost use Rattle.qpu_expr.specs.Calls.{called};
-ghost use Rattle.qpu_expr.specs.Tolds.{label_length, nothing_told, left_told, set_to_told, set_told, repeat_told, macro_told, parts_told, call_told, text_told, told_by, told_of};
+ghost use Rattle.qpu_expr.specs.Tolds.{label_length, set_to_told, set_told, repeat_told, macro_told, parts_told, call_told, text_told, told_by, told_of};
 ghost use Rattle.qpu_expr.specs.Lines.{behind_label, head_of};
 
 use crate::call::called;

@@ -7,15 +7,14 @@ use Rattle.qpu_token.specs.declared.token.TokenKind.{TokenKind}
 use Rattle.qpu_token.specs.declared.token.TokenKind.TheVariants as kind
 use Rattle.qpu_token.specs.declared.token.Token.{Token}
 use Rattle.qpu_token.specs.Tokens.{text_of}
-use Rattle.qpu_expr.specs.Registers.{is_text}
 use Rattle.qpu_expr.specs.Operands.{is_name, is_dot}
-use Rattle.qpu_expr.specs.Lines.{is_colon, label_of, word_head, directive, head_of}
+use Rattle.qpu_expr.specs.Lines.{is_colon, label_of, word_head, head_of}
 use Rattle.qpu_line.specs.declared.name.Name.{Name}
 use Rattle.qpu_line.specs.declared.name.Name.TheVariants as name
 use Rattle.qpu_line.specs.declared.symbol.Symbol.TheVariants as symbol
-use Rattle.qpu_line.specs.Spellings.{spelling, register_spelling}
-use Rattle.qpu_word.specs.Names.{read_name, write_name, row_name}
-use Rattle.qpu_line.specs.Names.{register_of, name_of}
+use Rattle.qpu_line.specs.declared.name.Register.{Register}
+use Rattle.qpu_line.specs.Spellings.{spelling}
+use Rattle.qpu_line.specs.Names.{register_of, found_in, row_or, name_of}
 use Rattle.qpu_dis.specs.Tokens.{name_symbol, symbol_by, symbol_of}
 use Rattle.qpu_inverse.proofs.Readings.{token_of}
 
@@ -32,7 +31,7 @@ by_kind text _ t n is e = absurd (cc)
 pub name_in : (text : List ℕ) (t : Token) (n : Name) → symbol_of text t ≡ symbol.Name n → name_of (text_of text t) ≡ Some n
 name_in text t n e = by_kind text t.kind t n (token_of text t (symbol.Name n) e) e
 
--- `word` is none of the directives that the expansion knows
+-- the name `word` is spelled in one way
 
 same_text : (a b : List ℕ) → pointwise nat_eq a b ≡ true → a ≡ b
 same_text [] [] e = refl
@@ -45,54 +44,34 @@ same_text (x ∷ a) (y ∷ b) e =
     let later : a ≡ b = same_text a b rest in
     cc
 
-abbrev IsOther : Option Name → Type 0
-IsOther (Some name.Word) = ⊥
-IsOther _ = Unit {0}
-
-not_text : (word other : List ℕ) → name_of word ≡ Some name.Word → IsOther (name_of other) → is_text word other ≡ false
-not_text word other is differs = by_test (is_text word other) refl
+found_spelled : (names : List Name) (text : List ℕ) (n : Name) → found_in names text ≡ Some n → pointwise nat_eq (spelling n) text ≡ true
+found_spelled [] text n e = cc
+found_spelled (m ∷ names) text n e = by_test (pointwise nat_eq (spelling m) text) refl e (found_spelled names text n)
   where
-    by_test : (b : Bool) → is_text word other ≡ b → b ≡ false
-    by_test true e = absurd (subst IsOther (ap name_of (sym (same_text word other e)) ∙ is) differs)
-    by_test false e = refl
+    by_test : (b : Bool) → pointwise nat_eq (spelling m) text ≡ b → found_in (m ∷ names) text ≡ Some n → (found_in names text ≡ Some n → pointwise nat_eq (spelling n) text ≡ true) → pointwise nat_eq (spelling n) text ≡ true
+    by_test true b e later =
+        let found : ◌≡◌ {A = Option Name} (Some m) (Some n) = rw b at e in
+        let same : m ≡ n = cc in
+        subst (λ n. pointwise nat_eq (spelling n) text ≡ true) same b
+    by_test false b e later = later (rw b at e)
 
-other_set : IsOther (name_of (codes "set"))
-unfolding name_of register_of spelling register_spelling read_name write_name row_name
-other_set = tt
+row_spelled : (names : List Name) (text : List ℕ) (r : Option Register) → row_or r (found_in names text) ≡ Some name.Word → text ≡ spelling name.Word
+row_spelled names text None e = sym (same_text (spelling name.Word) text (found_spelled names text name.Word e))
+row_spelled names text (Some row) e = absurd cc
 
-other_rep : IsOther (name_of (codes "rep"))
-unfolding name_of register_of spelling register_spelling read_name write_name row_name
-other_rep = tt
+word_spelled : (text : List ℕ) → name_of text ≡ Some name.Word → text ≡ spelling name.Word
+unfolding name_of
+word_spelled text is = search row_spelled
 
-other_endr : IsOther (name_of (codes "endr"))
-unfolding name_of register_of spelling register_spelling read_name write_name row_name
-other_endr = tt
-
-other_macro : IsOther (name_of (codes "macro"))
-unfolding name_of register_of spelling register_spelling read_name write_name row_name
-other_macro = tt
-
-other_endm : IsOther (name_of (codes "endm"))
-unfolding name_of register_of spelling register_spelling read_name write_name row_name
-other_endm = tt
-
--- it is read as a line without a word behind its `.` is
-word_directive : (word : List ℕ) → name_of word ≡ Some name.Word → word_head word ≡ directive [] []
-unfolding word_head
-word_directive word is =
-    rw (
-      not_text word (codes "set") is other_set,
-      not_text word (codes "rep") is other_rep,
-      not_text word (codes "endr") is other_endr,
-      not_text word (codes "macro") is other_macro,
-      not_text word (codes "endm") is other_endm,
-    )
-    refl
+-- it is read as the directive
+word_directive : (word : List ℕ) → name_of word ≡ Some name.Word → word_head word ≡ word_head (codes "word")
+unfolding spelling
+word_directive word is = ap word_head (word_spelled word is)
 
 pub word_heads : (text : List ℕ) (dot word : Token) (ts : List Token) → is_dot text dot ≡ true → is_name text word ≡ true → name_of (text_of text word) ≡ Some name.Word
-    → head_of text (dot ∷ word ∷ ts) ≡ directive [] []
+    → head_of text (dot ∷ word ∷ ts) ≡ word_head (codes "word")
 unfolding head_of
-word_heads text dot word ts is_a_dot is_a_name is = rw (is_a_dot, is_a_name, word_directive (text_of text word) is) refl
+word_heads text dot word ts is_a_dot is_a_name is = rw (is_a_dot, is_a_name) (word_directive (text_of text word) is)
 
 -- no line has a label
 pub no_label : (text : List ℕ) (t : Token) (ts : List Token) → is_colon text t ≡ false → label_of text (t ∷ ts) ≡ None

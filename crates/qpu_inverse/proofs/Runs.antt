@@ -1,6 +1,6 @@
 -- What the expansion leaves of the disassembler's lines.
 use Rattle.std.proofs.Common.{◌≡◌, ℕ, ◌+◌, ◌-◌, ◌*◌, ◌≤◌, ◌<◌, true, false, List, [], ◌∷◌, ◌++◌, length, Option, Some, None, Ok, refl, ap, subst, sym, ◌∙◌, append-nil, append_assoc, arith}
-use Rattle.std.specs.Prelude.{◌&&◌, nat_le, not, is_some}
+use Rattle.std.specs.Prelude.{◌&&◌, codes, nat_le, not, is_some}
 use Rattle.std.proofs.lemmas.Bool.Decides.{nat_tests}
 use Rattle.std.proofs.lemmas.Option.{slice_get_past}
 use Rattle.qpu_token.specs.declared.token.Token.{Token}
@@ -9,7 +9,7 @@ use Rattle.qpu_expr.specs.LineTokens.{LineTokens}
 use Rattle.qpu_expr.specs.StageParts.{Stage}
 use Rattle.qpu_expr.specs.Operands.{is_name, is_dot, nothing_read, instruction_work as worked_out}
 use Rattle.qpu_expr.specs.Calls.{text_deed, instruction_deed}
-use Rattle.qpu_expr.specs.Lines.{lines_of, is_colon, directive, head_of}
+use Rattle.qpu_expr.specs.Lines.{lines_of, is_colon, word_head, head_of}
 use Rattle.qpu_expr.specs.Stage.{too_long}
 use Rattle.qpu_expr.specs.Deeds.{line_does, done_by}
 use Rattle.qpu_expr.specs.Expansion.{RunResult, then, left_of, lines_run, run_within, expansion}
@@ -58,12 +58,12 @@ instruction_line text run t end ts out lines ls n k name dot colon works long = 
 
 -- a line of a word
 word_line : (text : List ℕ) (run : List LineTokens → Stage → RunResult) (t end : Token) (ts : List Token) (lines : List LineTokens) (ls : List (List Token)) (n k : ℕ)
-    → is_colon text t ≡ false → head_of text (t ∷ ts) ≡ directive [] []
+    → is_colon text t ≡ false → head_of text (t ∷ ts) ≡ word_head (codes "word")
     → too_long (stage ls n k) (record { tokens = t ∷ ts; end = end }) true ≡ None
     → lines_run text run false 0 (record { tokens = t ∷ ts; end = end } ∷ lines) (stage ls n k)
     ≡ lines_run text run false 0 lines (stage (ls ++ ((t ∷ ts) ++ end ∷ []) ∷ []) (n + length (t ∷ ts)) (k + 1))
-unfolding line_does done_by
-word_line text run t end ts lines ls n k colon head long = rw (no_label text t ts colon, head, colon, long, no_label text t ts colon) refl
+unfolding line_does done_by word_head
+word_line text run t end ts lines ls n k colon head long = rw (no_label text t ts colon, head, long, no_label text t ts colon) refl
 
 -- the same by the lines' symbols
 
