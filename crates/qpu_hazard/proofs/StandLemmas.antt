@@ -1,8 +1,7 @@
 -- A processor of a clean program that stands on a path stays on one, whichever way its branches go.
-use Rattle.std.proofs.Common.{◌≡◌, ℕ, ◌*◌, ◌==◌, ◌<◌, Bool, true, false, List, [], ◌∷◌, length, Option, Some, None, refl, sym, ◌∙◌, inl, true≢false, arith}
+use Rattle.std.proofs.Common.{◌≡◌, ℕ, ◌*◌, ◌==◌, ◌<◌, Bool, true, false, List, [], ◌∷◌, length, Option, Some, None, refl, sym, ◌∙◌, inl, true≢false}
 use Rattle.std.specs.Prelude.{◌&&◌, ◌||◌, is_some, nat_lt, if◌then◌else◌}
 use Rattle.std.proofs.lemmas.Bool.{eqb-true}
-use Rattle.std.proofs.lemmas.Bool.Decides.{nat_tests}
 use Rattle.qpu_word.specs.Instruction.{is_link_point}
 use Rattle.qpu_flow.specs.declared.slots.Slots.{Slots}
 use Rattle.qpu_flow.specs.declared.slots.Successors.{Successors}
@@ -13,14 +12,12 @@ use Rattle.qpu_flow.specs.declared.control.Next.{Next}
 use Rattle.qpu_flow.specs.declared.control.Next.TheVariants.{At, AnyLink, Ended, Outside}
 use Rattle.qpu_flow.specs.Control.{slots_after, straight_on, after_last_slot, next_from, asks_for, leads_to, leads_out, is_past}
 use Rattle.qpu_flow.specs.Follow.{RestIs, has_target, ways, chosen_way, Follows}
+use Rattle.qpu_flow.proofs.FollowLemmas.{zero_false}
 use Rattle.qpu_hazard.specs.Paths.{IsPath, IsClean, broken, follows, slots_of}
 use Rattle.qpu_hazard.specs.Standing.{Stands, Goes}
 use Rattle.qpu_hazard.proofs.Basics.{or_first, or_second, and_first, and_both, when_empty}
 use Rattle.qpu_hazard.proofs.StepLemmas.{leads_by, link_there}
 use Rattle.qpu_hazard.proofs.KnownLemmas.{rules_kept}
-
-zero_false : (n : ℕ) → (n == 0) ≡ false → 0 < n
-zero_false n test = grind (arith, nat_tests)
 
 -- what a chosen way leads to is among the ways
 
