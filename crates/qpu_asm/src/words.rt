@@ -28,6 +28,7 @@ fn first_line(text: &[u8]) -> Option<(&[u8], &[u8])>
 }
 
 /// Puts a word behind the others.
+#[tactic(auto, unfolding(qpu_word::specs::Words::numbers_of))]
 fn put_word(words: &mut Vec<Word>, word: Word) -> Result<(), AllocError>
     ensures { OnOk result (numbers_of words.new.items ≡ numbers_of words.old.items ++ word.0 ∷ []) }
 {
@@ -51,7 +52,7 @@ fn put_line(words: &mut Vec<Word>, number: u32, line: &[u8]) -> Result<(), Stop>
 }
 
 /// The words of the lines of a text.
-#[tactic(auto, unfolding(crate::specs::HexLines::hex_words))]
+#[tactic(auto, unfolding(crate::specs::HexLines::hex_words, qpu_word::specs::Words::numbers_of))]
 fn read_words(alloc: Global, text: &[u8]) -> Result<Vec<Word>, Stop>
     requires { length text.now ≤ MOST_BYTES }
     ensures ok { IfOk result (λ words. AreHexWords text.now words.items) }

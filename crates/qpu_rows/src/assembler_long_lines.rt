@@ -128,6 +128,6 @@ fn a_line_as_long_as_an_input_is_refused(rt: HostRuntime) -> Result<(), Fail> {
     let answer = answered(rt.alloc(), &ASM, text.as_bytes(), &[], &[])?;
     assert!(rt; answer.status == Status::AsmRefused);
     let line = b"refused asm TooLong at line 1 column 1048577\n";
-    assert!(rt; answer.text.as_slice() == line);
+    assert!(rt; answer.text.as_slice() == line.as_slice());
     Ok(())
 }
