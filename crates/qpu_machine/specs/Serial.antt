@@ -1,5 +1,5 @@
 -- The serial schedule: the order of a run without workers. This project's own.
-use Rattle.std.specs.Prelude.{◌≡◌, ℕ, ◌+◌, ◌<◌, ◌&&◌, Bool, true, false, List, [], ◌∷◌, ◌++◌, Option, Some, None, slice_index}
+use Rattle.std.specs.Prelude.{◌≡◌, ℕ, ◌+◌, ◌<◌, ◌&&◌, Bool, true, false, List, [], ◌∷◌, ◌++◌, Option, Some, None}
 use Rattle.qpu_word.specs.declared.code.TheConstants.{PROCESSORS}
 use Rattle.qpu_word.specs.Processor.{ProcessorState}
 use Rattle.qpu_machine.specs.declared.actor.Actor.{Actor}
