@@ -6,7 +6,7 @@ ghost use Rattle.qpu_token.specs.Words.{is_name_byte};
 ghost use Rattle.qpu_job.specs.Words.{texts_of, name_of, line_numbers};
 ghost use Rattle.qpu_job.specs.Shapes.{said, Data, opening_shape, memory_shape, limit_shape, data_shape, program_shape, start_shape, shape_of};
 
-use crate::number::{number_of, line_numbers};
+use crate::number::{line_numbers, number_of};
 use crate::word::is_name;
 use qpu_word::NoMemory;
 use std::alloc::Global;
