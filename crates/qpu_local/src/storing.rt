@@ -21,7 +21,7 @@ const LOADED: usize = 4;
 const REPLICATED: usize = 5;
 
 /// Lanes of a group whose first one goes to all of it.
-const TURN: usize = 4;
+const QUAD: usize = 4;
 
 /// The packing that leaves values as they are.
 const WHOLE: u32 = 0;
@@ -65,7 +65,7 @@ fn replicated_in(in_b: bool, values: &Lanes) -> Lanes
 {
     let mut out = [0; LANES];
     for i in 0..LANES {
-        out[i] = pick(in_b, values.v[0], values.v[i / TURN * TURN]);
+        out[i] = pick(in_b, values.v[0], values.v[i / QUAD * QUAD]);
     }
     Lanes { v: out }
 }

@@ -14,7 +14,7 @@ use Rattle.qpu_machine.specs.declared.start.Start.{Start}
 use Rattle.qpu_machine.specs.Machine.{MachineState, processor_of, words_of, with_start, machine_of}
 use Rattle.qpu_machine.specs.Sound.{IsSoundMachine}
 use Rattle.qpu_machine.specs.Trace.{trace_of}
-use Rattle.qpu_machine.specs.Trails.{ComesFrom, IsCleanPath, TracesAreClean}
+use Rattle.qpu_machine.specs.TracePaths.{ComesFrom, IsCleanPath, TracesAreClean}
 use Rattle.qpu_machine.specs.Bound.{instructions_left, moves_pending, steps_left_of, sum_below, steps_left}
 use Rattle.qpu_machine.specs.declared.actor.Actor.{Actor}
 use Rattle.qpu_machine.specs.Schedule.{After}

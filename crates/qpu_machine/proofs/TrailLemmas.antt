@@ -27,7 +27,7 @@ use Rattle.qpu_machine.specs.Machine.{MachineState, processor_of, words_of, with
 use Rattle.qpu_machine.specs.Schedule.{After, here, next}
 use Rattle.qpu_machine.specs.Sound.{IsSoundMachine}
 use Rattle.qpu_machine.specs.Trace.{executed_by, trace_of}
-use Rattle.qpu_machine.specs.Trails.{ComesFrom, IsCleanPath}
+use Rattle.qpu_machine.specs.TracePaths.{ComesFrom, IsCleanPath}
 use Rattle.qpu_machine.proofs.KeptStep.{parts_of_done}
 use Rattle.qpu_machine.proofs.SoundLemmas.{going_running}
 use Rattle.qpu_machine.proofs.ScheduleLemmas.{StepsExec, steps_exec, steps_load, steps_store, steps_fetch, there_low, started_there, sound_step, is_step}

@@ -6,7 +6,7 @@ use Rattle.qpu_machine.specs.Journal.{steps_of}
 use Rattle.qpu_machine.specs.Machine.{MachineState, processor_of}
 use Rattle.qpu_machine.specs.Sound.{IsSoundMachine}
 use Rattle.qpu_machine.specs.Bound.{instructions_left, instructions_of, steps_left}
-use Rattle.qpu_machine.specs.Trails.{GoesOnPaths}
+use Rattle.qpu_machine.specs.TracePaths.{GoesOnPaths}
 use Rattle.qpu_machine.specs.Schedule.{After}
 
 -- a journal has gained steps, of which something holds

@@ -15,5 +15,5 @@ pub mod Local
 pub mod Bound
 pub mod Gains
 pub mod Opening
-pub mod Trails
+pub mod TracePaths
 pub mod AtRest

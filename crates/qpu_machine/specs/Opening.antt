@@ -9,7 +9,7 @@ use Rattle.qpu_machine.specs.Machine.{MachineState, machine_of}
 use Rattle.qpu_machine.specs.Sound.{IsSoundMachine}
 use Rattle.qpu_machine.specs.Schedule.{After}
 use Rattle.qpu_machine.specs.Bound.{instructions_of}
-use Rattle.qpu_machine.specs.Trails.{TracesAreClean}
+use Rattle.qpu_machine.specs.TracePaths.{TracesAreClean}
 
 -- a limit, programs and starts that a machine may open with: the starts are of different processors
 -- and of programs of the list, no path of which breaks a rule

@@ -86,16 +86,16 @@ impl Machine {
     }
 
     /// Whether some processor ran out.
-    fn has_spent(&self) -> bool
+    fn some_ran_out(&self) -> bool
         ensures { result ≡ list_any (has_run_out self.now.state.limit) self.now.state.processors }
     {
         let limit = self.limit;
         self.processors.iter().any(|p| has_run_out(limit, p))
     }
 
-    /// How a final machine has come out.
+    /// The ending of a final machine.
     #[tactic(auto, unfolding(crate::specs::Ending::ending_of))]
-    fn came_out(&self) -> Ending
+    fn final_ending(&self) -> Ending
         ensures { result ≡ ending_of self.now.state }
     {
         if self.has_fault() {
@@ -104,7 +104,7 @@ impl Machine {
         if self.has_running() {
             return Ending::Stuck;
         }
-        if self.has_spent() {
+        if self.some_ran_out() {
             return Ending::RanOut;
         }
         Ending::Done
@@ -119,6 +119,6 @@ impl Machine {
         if self.has_any_step() {
             return None;
         }
-        Some(self.came_out())
+        Some(self.final_ending())
     }
 }

@@ -17,7 +17,8 @@ pub fn journal_spells()
     ensures { SpellsMore }
 {}
 
-/// A law: each permitted schedule of a sound machine leaves it sound. It has no more steps than the
+/// A law: each permitted schedule of a sound machine, and so each sequence of calls of `Machine::step`,
+/// leaves it sound. It has no more steps than the
 /// machine had left, and of each processor no more instructions; the words that it executes for a
 /// processor go on the path that the processor comes from and break no rule, so no step reads an
 /// undefined result.
