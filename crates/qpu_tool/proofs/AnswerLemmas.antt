@@ -10,7 +10,7 @@ use Rattle.qpu_tool.specs.declared.status.Status.TheVariants.{Done, Usage, AsmRe
 use Rattle.qpu_tool.specs.declared.words.Command.{Command}
 use Rattle.qpu_tool.specs.Commands.{IsCommand, IsNoCommand, limit_of}
 use Rattle.qpu_tool.specs.Answer.{Answer, IsGiven}
-use Rattle.qpu_tool.specs.Answers.{AnswerTo, Due, wrong_words, broken, past, whole, Judged, answered, no_memory, CallOutcome, given, out_of_memory, Answered, IsOfText, NoCountRose, NothingLeft, AnswersTo, IsCutOff, IsGiven}
+use Rattle.qpu_tool.specs.Answers.{AnswerTo, Due, wrong_words, broken, past, whole, Judged, answered, no_memory, CallOutcome, given, out_of_memory, Answered, IsOfText, NoCountRose, NothingLeft, AnswersTo, IsCutOff, IsGivenWhole}
 use Rattle.qpu_tool.proofs.CommandLemmas.{one_command}
 use Rattle.qpu_tool.proofs.StatusLemmas.{text_status}
 
@@ -110,12 +110,12 @@ write_fault_told words old new held held' status (out_of_memory command run read
 
 all_given : (words : List (List ℕ)) (old new : Input) (held held' : Output) (status : Status) (answer : Answer) → Due words old new answer
     → ((status ≡ WriteFault) × Cut held held' answer.text) ⊎ ((status ≡ answer.status) × (held' ≡ appended held answer.text)) → status ≢ WriteFault
-    → IsGiven words old new held held' status
+    → IsGivenWhole words old new held held' status
 all_given words old new held held' status answer due (inl part) uncut = absurd (uncut part.0)
 all_given words old new held held' status answer due (inr all) uncut = record { answer = answer; due = due; status_is = all.0; printed = all.1 }
 
 pub given_told : (words : List (List ℕ)) (old new : Input) (held held' : Output) (status : Status)
-    → CallOutcome words old new held held' status → status ≢ WriteFault → status ≢ NoMemory → IsGiven words old new held held' status
+    → CallOutcome words old new held held' status → status ≢ WriteFault → status ≢ NoMemory → IsGivenWhole words old new held held' status
 given_told words old new held held' status (given answer due gives) uncut some =
     all_given words old new held held' status answer due (gave answer held held' status gives) uncut
 given_told words old new held held' status (out_of_memory command run read is same) uncut some = absurd (some is)

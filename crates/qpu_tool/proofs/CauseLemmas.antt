@@ -8,22 +8,20 @@ use Rattle.qpu_asm.specs.Assembly.{IsAssembly}
 use Rattle.qpu_hazard.specs.declared.checked.CheckFault.{CheckFault}
 use Rattle.qpu_job.specs.declared.fault.JobFault.{JobFault}
 use Rattle.qpu_job.specs.declared.fault.JobFault.TheVariants as fault
-use Rattle.qpu_job.specs.Plan.{Plan}
 use Rattle.qpu_job.specs.Reading.{job_of, IsReadFault}
-use Rattle.qpu_job.specs.Opening.{IsMakeFault}
 use Rattle.qpu_record.specs.declared.fault.RecordFault.{RecordFault}
 use Rattle.qpu_record.specs.Reading.{Parts, record_of}
 use Rattle.qpu_tool.specs.declared.status.Status.{Status}
 use Rattle.qpu_tool.specs.declared.words.Command.{Command}
 use Rattle.qpu_tool.specs.declared.words.Command.TheVariants.{Run, Assemble, Disassemble, Check, Replay}
 use Rattle.qpu_tool.specs.Commands.{limit_of}
-use Rattle.qpu_tool.specs.Refusals.{is_high, names_of}
+use Rattle.qpu_tool.specs.Refusals.{is_high}
 use Rattle.qpu_tool.specs.Answer.{Answer, too_long, not_ascii}
 use Rattle.qpu_tool.specs.RunAnswers.{JobRefusal, no_job, no_machine, RunAnswer, refused, ran, refusal, job_refusal, IsAccepted, IsOfRun, PrintsRun, RunsIt}
 use Rattle.qpu_tool.specs.TextAnswers.{AsmAnswer, refused as faulty, assembled, told as lines_told, misread, CheckAnswer, misspelled, hazardous, accepted, asm_refusal}
 use Rattle.qpu_tool.specs.RecordAnswers.{OpensRecord, RecordAnswer, no_record, no_start, not_taken, other_report, replayed, record_refusal}
 use Rattle.qpu_tool.specs.Answers.{AnswerBy, AnswerTo, high, low, AnswersTo, ComesTo}
-use Rattle.qpu_tool.specs.Causes.{CausesOfJob, CausesOfRun, CausesOfAsm, CausesOfDis, CausesOfCheck, CausesOfRecord, CausesBy, CausesTo}
+use Rattle.qpu_tool.specs.Causes.{CausesOfRun, CausesOfAsm, CausesOfDis, CausesOfCheck, CausesOfRecord, CausesBy, CausesTo}
 use Rattle.qpu_tool.proofs.AsmLemmas.{no_fault_due}
 use Rattle.qpu_tool.proofs.RunLemmas.{accepted_by}
 use Rattle.qpu_tool.proofs.OneDueText.{one_value, one_error, not_both, one_told}

@@ -1,11 +1,7 @@
 -- What follows of the checker's answer to assembly text.
-use Rattle.std.proofs.Common.{◌≡◌, ◌≢◌, ℕ, List, Option, Some, None, refl, sym, subst, ◌∙◌}
+use Rattle.std.proofs.Common.{◌≡◌, ℕ, List, None, subst}
 use Rattle.std.specs.Prelude.{position}
 use Rattle.qpu_io.specs.Output.{Output, appended}
-use Rattle.qpu_word.specs.declared.fault.WordFault.{WordFault}
-use Rattle.qpu_flow.specs.Code.{AllInProfile}
-use Rattle.qpu_hazard.specs.Refusal.{NoneRefusable}
-use Rattle.qpu_hazard.specs.Faults.{IsCheckFault}
 use Rattle.qpu_tool.specs.declared.status.Status.{Status}
 use Rattle.qpu_tool.specs.declared.status.Status.TheVariants.{Done, AsmRefused, HazardRefused}
 use Rattle.qpu_tool.specs.Refusals.{is_high}

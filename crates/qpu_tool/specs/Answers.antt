@@ -88,7 +88,7 @@ pub record IsCutOff (words : List (List ℕ)) (old new : Input) (held held' : Ou
   pub counted : Rose held.faults held'.faults
 
 -- the answer that is due was given: its status, and the whole of its text
-pub record IsGiven (words : List (List ℕ)) (old new : Input) (held held' : Output) (status : Status) : Type 0 where
+pub record IsGivenWhole (words : List (List ℕ)) (old new : Input) (held held' : Output) (status : Status) : Type 0 where
   pub answer : Answer
   pub due : Due words old new answer
   pub status_is : status ≡ answer.status

@@ -12,7 +12,7 @@ ghost use Rattle.qpu_tool.specs.Commands.{IsCommand, IsNoCommand, limit_of};
 ghost use Rattle.qpu_tool.specs.Answer.{Answer, IsGiven, usage, read_fault, too_long};
 ghost use Rattle.qpu_tool.specs.RunAnswers.{CanRun};
 ghost use Rattle.qpu_tool.specs.RecordAnswers.{PrintsReportOf};
-ghost use Rattle.qpu_tool.specs.Answers.{AnswerTo, IsOfText, NoCountRose, NothingLeft, IsCutOff, IsGiven, TellsByte, AnswersTo, ComesTo, CallOutcome};
+ghost use Rattle.qpu_tool.specs.Answers.{AnswerTo, IsOfText, NoCountRose, NothingLeft, IsCutOff, IsGivenWhole, TellsByte, AnswersTo, ComesTo, CallOutcome};
 ghost use Rattle.qpu_tool.specs.Causes.{TellsCause, CausesTo};
 
 use crate::judging::judge;
@@ -109,7 +109,7 @@ pub fn plain<S: Source, K: Sink>(
     ensures nothing_left { IsOfText result → NothingLeft (S.shown source.new) }
     ensures no_memory { result ≡ Status.NoMemory → K.shown sink.new ≡ K.shown sink.old }
     ensures given { result ≢ Status.WriteFault → result ≢ Status.NoMemory
-        → IsGiven (map string_bytes words.now) (S.shown source.old) (S.shown source.new) (K.shown sink.old) (K.shown sink.new) result }
+        → IsGivenWhole (map string_bytes words.now) (S.shown source.old) (S.shown source.new) (K.shown sink.old) (K.shown sink.new) result }
 
     // Each answer to the bytes tells its cause.
     ensures not_ascii { (bytes : List ℕ) → (S.shown source.old).left ≡ Some bytes → result ≡ Status.NotAscii → TellsByte bytes (K.shown sink.old) (K.shown sink.new) }
