@@ -1,5 +1,5 @@
 -- The line of a branch is read.
-use Rattle.std.proofs.Common.{◌≡◌, ℕ, ◌<◌, ◌≤◌, Bool, true, false, List, [], ◌∷◌, ◌++◌, append_assoc, refl, sym, ap, ◌∙◌, subst, arith}
+use Rattle.std.proofs.Common.{◌≡◌, ℕ, ◌<◌, Bool, true, false, List, [], ◌∷◌, ◌++◌, append_assoc, refl, sym, ap, ◌∙◌, subst, arith}
 use Rattle.std.proofs.lemmas.List.Sums.{fold-append}
 use Rattle.std.proofs.lemmas.Bool.Decides.{nat_tests}
 use Rattle.std.specs.Prelude.{nat_lt, fold, Option, Some, None, Ok, if◌then◌else◌}
@@ -38,6 +38,7 @@ use Rattle.qpu_asm.specs.Marks.{mark, target_place, somewhere, if_link, place_ma
 use Rattle.qpu_asm.specs.Judging.{cross, line_fault}
 use Rattle.qpu_asm.specs.Meanings.{place_of, branch_condition_in, distance, target_row, row_part, first_told, link_in, branch_of_part, meaning}
 use Rattle.qpu_asm.specs.LinesRead.{read_line}
+use Rattle.qpu_asm.proofs.AgainOperands.{figure_worth}
 use Rattle.qpu_asm.proofs.AgainSpelled.{Spelled, symbols_append}
 use Rattle.qpu_asm.proofs.AgainPieces.{place_by, ends_stops, maybe_suffix, Suffixed, suffix_read, SaysCore, target_core_read, target_no_dot, jump_number}
 use Rattle.qpu_asm.proofs.AgainUnits.{comma_ends, comma_read, nothing_ends}
@@ -61,14 +62,6 @@ branch_suffix_is cond = suffix_by (nat_lt cond 12) (name.BranchCondition cond)
 
 abbrev figure : Bool → ℕ → Figure
 figure relative n = if relative then signed_figure n else Hexadecimal n
-
-signed_worth : (n : ℕ) (b : Bool) → nat_lt n 2147483648 ≡ b → n < 4294967296 → worth (signed_figure n) ≡ n
-signed_worth n true e near = rw e refl
-signed_worth n false e near = let far : 2147483648 ≤ n = grind (arith, nat_tests, e) in rw e (omega arith)
-
-figure_worth : (relative : Bool) (n : ℕ) → n < 4294967296 → worth (if relative then signed_figure n else Hexadecimal n) ≡ n
-figure_worth true n near = signed_worth n (nat_lt n 2147483648) refl near
-figure_worth false n near = refl
 
 record SaysBranch (b : Branch) (v : BranchPart) : Type 0 where
   relative : v.relative ≡ b.relative

@@ -11,8 +11,9 @@ use Rattle.qpu_line.specs.declared.name.Name.{Name}
 use Rattle.qpu_line.specs.declared.name.Name.TheVariants as name
 use Rattle.qpu_line.specs.declared.name.Register.TheVariants as register
 use Rattle.qpu_line.specs.declared.symbol.Symbol.TheVariants as symbol
-use Rattle.qpu_line.specs.Lines.{Bit, worth, small_figure, source_a, source_b, symbols_of, suffix, unpack_bits, operand_bits}
+use Rattle.qpu_line.specs.Lines.{Bit, Hexadecimal, worth, signed_figure, small_figure, source_a, source_b, symbols_of, suffix, unpack_bits, operand_bits}
 use Rattle.qpu_line.specs.Named.{IsNamedOperand}
+use Rattle.qpu_line.proofs.ImmediateLemmas.{small_fits}
 use Rattle.qpu_asm.specs.declared.placed.Placed.{Placed}
 use Rattle.qpu_asm.specs.declared.piece.Core.TheVariants as core
 use Rattle.qpu_asm.specs.declared.piece.Suffix.{Suffix}
@@ -66,32 +67,17 @@ source_b_is n = source_b_by n (nat_lt n 32)
 
 -- numbers
 
-worth_by : (n : ℕ) (a b c : Bool) → nat_lt n 16 ≡ a → nat_lt n 32 ≡ b → nat_lt n 40 ≡ c → n < 48
-    → worth (small_figure n) ≡ small_value n
-unfolding small_value
-worth_by n true b c e f g near = rw e refl
-worth_by n false true c e f g near =
-    let up : 16 ≤ n = grind (arith, nat_tests, e) in
-    let low : n < 32 = grind (arith, nat_tests, f) in
-    rw (e, f) (omega arith)
-worth_by n false false true e f g near = rw (e, f, g) refl
-worth_by n false false false e f g near = rw (e, f, g) refl
+signed_worth : (n : ℕ) (b : Bool) → nat_lt n 2147483648 ≡ b → n < 4294967296 → worth (signed_figure n) ≡ n
+signed_worth n true e near = rw e refl
+signed_worth n false e near = let far : 2147483648 ≤ n = grind (arith, nat_tests, e) in rw e (omega arith)
 
-pub worth_of_small : (n : ℕ) → n < 48 → worth (small_figure n) ≡ small_value n
-worth_of_small n near = worth_by n (nat_lt n 16) (nat_lt n 32) (nat_lt n 40) refl refl refl near
+pub figure_worth : (signed : Bool) (n : ℕ) → n < 4294967296 → worth (if signed then signed_figure n else Hexadecimal n) ≡ n
+figure_worth true n near = signed_worth n (nat_lt n 2147483648) refl near
+figure_worth false n near = refl
 
-small_by : (n : ℕ) (a b c : Bool) → nat_lt n 16 ≡ a → nat_lt n 32 ≡ b → nat_lt n 40 ≡ c → n < 48 → small_value n < 4294967296
-unfolding small_value
-small_by n true b c e f g near =
-    let low : n < 16 = grind (arith, nat_tests, e) in rw e (omega arith)
-small_by n false true c e f g near =
-    let low : n < 32 = grind (arith, nat_tests, f) in rw (e, f) (omega arith)
-small_by n false false true e f g near =
-    let low : n < 40 = grind (arith, nat_tests, g) in rw (e, f, g) (omega arith)
-small_by n false false false e f g near = rw (e, f, g) (omega arith)
-
-pub small_fits : (n : ℕ) → n < 48 → small_value n < 4294967296
-small_fits n near = small_by n (nat_lt n 16) (nat_lt n 32) (nat_lt n 40) refl refl refl near
+worth_of_small : (n : ℕ) → n < 48 → worth (small_figure n) ≡ small_value n
+worth_of_small n near =
+    let low : nat_lt n 48 ≡ true = grind (arith, nat_tests, near) in rw low (figure_worth (nat_lt n 32) (small_value n) (small_fits n near))
 
 -- operands
 

@@ -8,7 +8,7 @@ use Rattle.qpu_token.specs.Words.{is_letter, is_name_byte, is_run, number_value}
 use Rattle.qpu_token.specs.Tokens.{after_text, bound}
 use Rattle.qpu_token.specs.Written.{Item, Name, Number as NumberItem, Sign, Space as SpaceItem, item_text, items_text, Told, item_told, items_told, Ends, Stage, CanStand}
 use Rattle.qpu_token.proofs.WrittenLaw.{small_fits}
-use Rattle.qpu_io.specs.Text.{hex8}
+use Rattle.qpu_text.specs.Digits.{hex_digits}
 use Rattle.qpu_line.specs.declared.symbol.Symbol.{Symbol}
 use Rattle.qpu_line.specs.declared.symbol.Symbol.TheVariants as symbol
 use Rattle.qpu_line.specs.declared.name.Name.{Name as NameOf}
@@ -26,7 +26,7 @@ use Rattle.qpu_dis.proofs.NumberLemmas.{decimal_run, decimal_value, hex_run, hex
 abbrev pub figure_items : Figure → List Item
 figure_items (Decimal n) = NumberItem (decimal n) ∷ []
 figure_items (Negative n) = Sign 45 ∷ NumberItem (decimal n) ∷ []
-figure_items (Hexadecimal n) = NumberItem (codes "0x" ++ hex8 n) ∷ []
+figure_items (Hexadecimal n) = NumberItem (codes "0x" ++ hex_digits 8 n) ∷ []
 
 abbrev pub bit_items : Bit → List Item
 bit_items (Word n) = Name (spelling n) ∷ []
@@ -51,7 +51,7 @@ unfolding items_text
 bit_same (Word n) = append-nil (spelling n)
 bit_same (Number (Decimal n)) = append-nil (decimal n)
 bit_same (Number (Negative n)) = ap (λ z. 45 ∷ z) (append-nil (decimal n))
-bit_same (Number (Hexadecimal n)) = append-nil (codes "0x" ++ hex8 n)
+bit_same (Number (Hexadecimal n)) = append-nil (codes "0x" ++ hex_digits 8 n)
 bit_same Comma = refl
 bit_same Semicolon = refl
 bit_same Dot = refl
@@ -106,7 +106,7 @@ figure_told : (figure : Figure) → IsNumber figure → told_symbols (figure_ite
 unfolding items_told
 figure_told (Decimal n) low = rw (decimal_value n (small n low)) refl
 figure_told (Negative n) low = rw (decimal_value n (small n low)) refl
-figure_told (Hexadecimal n) low = rw (hex_number n low) refl
+figure_told (Hexadecimal n) low = rw (hex_number 8 n low) refl
 
 word_told : (n : NameOf) → IsNameOfLanguage n → told_symbols (Name (spelling n) ∷ []) ≡ symbol.Name n ∷ []
 unfolding items_told
@@ -172,8 +172,8 @@ bits_stand dotted (Number (Negative n) ∷ bits) b rest stand ends more =
     let value : number_value (decimal n) < bound (after_text b (codes "-")) = rw (decimal_value n (small n stand.1)) (small_fits (after_text b (codes "-")) n stand.1) in
     (refl, (refl, decimal_run n (small n stand.1), value, ends_too bits rest stand.2 ends, bits_stand false bits (after_text (after_text b (codes "-")) (decimal n)) rest stand.3 ends more))
 bits_stand dotted (Number (Hexadecimal n) ∷ bits) b rest stand ends more =
-    let value : number_value (codes "0x" ++ hex8 n) < bound b = rw (hex_number n stand.1) (small_fits b n stand.1) in
-    (stand.0, hex_run n, value, ends_too bits rest stand.2 ends, bits_stand false bits (after_text b (codes "0x" ++ hex8 n)) rest stand.3 ends more)
+    let value : number_value (codes "0x" ++ hex_digits 8 n) < bound b = rw (hex_number 8 n stand.1) (small_fits b n stand.1) in
+    (stand.0, hex_run 8 n (omega arith), value, ends_too bits rest stand.2 ends, bits_stand false bits (after_text b (codes "0x" ++ hex_digits 8 n)) rest stand.3 ends more)
 bits_stand dotted (Comma ∷ bits) b rest stand ends more = (refl, bits_stand false bits (after_text b (codes ",")) rest stand ends more)
 bits_stand dotted (Semicolon ∷ bits) b rest stand ends more = (refl, bits_stand false bits (after_text b (codes ";")) rest stand ends more)
 bits_stand dotted (Dot ∷ bits) b rest stand ends more = (refl, bits_stand true bits (after_text b (codes ".")) rest stand ends more)

@@ -1,5 +1,5 @@
 -- The text of words has the tokens of their lines.
-use Rattle.std.proofs.Common.{◌≡◌, ℕ, suc, ◌/◌, ◌%◌, ◌^◌, ◌<◌, inr, false, List, [], ◌∷◌, ◌++◌, map, Option, Some, None, Result, Ok, Err, refl, ap, sym, subst, ◌∙◌, append-nil, append_assoc, arith}
+use Rattle.std.proofs.Common.{◌≡◌, ℕ, suc, ◌^◌, ◌<◌, inr, false, List, [], ◌∷◌, ◌++◌, map, Option, Some, None, Result, Ok, Err, refl, ap, sym, subst, ◌∙◌, append-nil, append_assoc, arith}
 use Rattle.std.specs.Prelude.{All, codes}
 use Rattle.std.proofs.lemmas.Simd.{map-map}
 use Rattle.qpu_token.specs.declared.token.Token.{Token}
@@ -10,7 +10,7 @@ use Rattle.qpu_token.specs.Written.{Item, Name, Number as NumberItem, Sign, Spac
 use Rattle.qpu_token.specs.OneAnswer.{IsAnswer}
 use Rattle.qpu_token.proofs.AnswerLaw.{one_answer}
 use Rattle.qpu_token.proofs.WrittenLaw.{written_law}
-use Rattle.qpu_io.specs.Text.{hex8}
+use Rattle.qpu_text.specs.Digits.{hex_digits}
 use Rattle.qpu_line.specs.declared.instruction.Instruction.{Instruction}
 use Rattle.qpu_line.specs.declared.symbol.Symbol.{Symbol}
 use Rattle.qpu_line.specs.declared.symbol.Symbol.TheVariants as symbol
@@ -22,14 +22,14 @@ use Rattle.qpu_line.specs.Lines.{line_bits}
 use Rattle.qpu_line.proofs.NameLaw.{names_back}
 use Rattle.qpu_dis.specs.Text.{line_or_word, canonical_line, ended_line, disassembly}
 use Rattle.qpu_dis.specs.Tokens.{symbol_of, written_by, line_written, lines_written, IsReadAs, IsAnsweredBy}
-use Rattle.qpu_dis.proofs.NumberLemmas.{word_run, word_number}
+use Rattle.qpu_dis.proofs.NumberLemmas.{hex_run, hex_number}
 use Rattle.qpu_dis.proofs.BitLemmas.{bits_items, items_append, bits_same, told_symbol, told_symbols, symbols_append, bits_told, bits_stand}
 use Rattle.qpu_dis.proofs.LineLemmas.{line_can_stand}
 
 -- the words of a line
 
 abbrev digits_of : ℕ → List ℕ
-digits_of w = codes "0x" ++ (hex8 (w / 2 ^ 32) ++ hex8 (w % 2 ^ 32))
+digits_of w = codes "0x" ++ hex_digits 16 w
 
 abbrev line_items : ℕ → Option Instruction → List Item
 line_items w None = Sign 46 ∷ Name (codes "word") ∷ SpaceItem ∷ NumberItem (digits_of w) ∷ []
@@ -69,7 +69,7 @@ word_back = names_back name.Word word_name
 
 line_told : (w : ℕ) (o : Option Instruction) → w < 2 ^ 64 → canonical_instruction w ≡ o → told_symbols (line_items w o) ≡ written_by w o
 unfolding items_told
-line_told w None low is = rw (word_back, word_number w low) refl
+line_told w None low is = rw (word_back, hex_number 16 w low) refl
 line_told w (Some i) low is = bits_told false (line_bits i) (line_can_stand w i is)
 
 ended_told : (w : ℕ) → w < 2 ^ 64 → told_symbols (ended w) ≡ line_written w ++ symbol.LineEnd ∷ []
@@ -98,8 +98,8 @@ lines_told (w ∷ words) all =
 line_stands : (w : ℕ) (o : Option Instruction) (c : Stage) (more : List Item) → w < 2 ^ 64 → canonical_instruction w ≡ o
     → ((c : Stage) → CanStand false c more) → CanStand false c (line_items w o ++ LineFeed ∷ more)
 line_stands w None c more low is behind =
-    let value : number_value (digits_of w) < 2 ^ 64 = rw (word_number w low) low in
-    (refl, (refl, tt, (refl, word_run (w / 2 ^ 32) (w % 2 ^ 32), value, tt, behind _)))
+    let value : number_value (digits_of w) < 2 ^ 64 = rw (hex_number 16 w low) low in
+    (refl, (refl, tt, (refl, hex_run 16 w (omega arith), value, tt, behind _)))
 line_stands w (Some i) c more low is behind =
     bits_stand false (line_bits i) c (LineFeed ∷ more) (line_can_stand w i is) tt (λ d b. behind (after_text b (codes "\n")))
 

@@ -4,6 +4,7 @@ use Rattle.std.specs.Prelude.{◌==◌, ◌&&◌, nat_lt, nat_le, IfSome, if◌t
 use Rattle.std.proofs.lemmas.Bool.Decides.{nat_tests}
 use Rattle.qpu_word.specs.declared.name.Place.TheVariants as place
 use Rattle.qpu_word.specs.declared.code.TheConstants.{ROWS, NOWHERE, READ_VPM, WRITE_R0, WRITE_R3, WRITE_VPM, ROTATE_BY_R5}
+use Rattle.qpu_word.specs.Operands.{immediate_of}
 use Rattle.qpu_word.specs.Words.{is_read_address, is_write_address}
 use Rattle.qpu_line.specs.declared.operand.Operand.{Operand}
 use Rattle.qpu_line.specs.declared.operand.Operand.TheVariants as operand
@@ -17,6 +18,7 @@ use Rattle.qpu_line.specs.Names.{IsNameOfLanguage}
 use Rattle.qpu_word.specs.Canonical.{file_matters}
 use Rattle.qpu_line.specs.Targets.{target_at_address}
 use Rattle.qpu_line.specs.Lines.{Figure, Decimal, Word, Number, Space, source_a, source_b, target_bits, suffix, condition_bits, branch_condition_bits, flags_bits, pack_bits, unpack_bits, small_figure, signed_figure, operand_bits, and_then, behind, part_bits, signal_bits, other_bits}
+use Rattle.qpu_line.proofs.ImmediateLemmas.{immediate_fits}
 use Rattle.qpu_dis.specs.Text.{second_bits, rotation_bit}
 use Rattle.qpu_dis.proofs.NameFacts.{is_packed}
 use Rattle.qpu_dis.proofs.BitLemmas.{IsNumber}
@@ -119,14 +121,12 @@ number_by : (b : Bool) (x y : Figure) → (b ≡ true → IsNumber x) → (b ≡
 number_by true x y p q = p refl
 number_by false x y p q = q refl
 
-small_number : (code : ℕ) → code < 64 → IsNumber (small_figure code)
-small_number code low =
-    number_by (nat_lt code 16) _ _ (λ e. omega arith)
-    (λ e. number_by (nat_lt code 32) _ _ (λ t. omega arith)
-    (λ t. number_by (nat_lt code 40) _ _ (λ u. grind (arith, nat_tests, low, t, u)) (λ u. grind (arith, nat_tests, low, u))))
-
 pub signed_number : (n : ℕ) → n < 2 ^ 32 → IsNumber (signed_figure n)
 signed_number n low = number_by (nat_lt n (2 ^ 31)) _ _ (λ e. low) (λ e. grind (arith, nat_tests, low, e))
+
+small_number : (code : ℕ) → IsNumber (small_figure code)
+small_number code =
+    number_by (nat_lt code 32) _ _ (λ e. signed_number (immediate_of code) (immediate_fits code)) (λ e. immediate_fits code)
 
 -- what an operand reads has a name, or is a number
 abbrev pub IsReadable : Operand → Type 0
@@ -139,7 +139,7 @@ pub operand_first : (o : Operand) → IsReadable o → IsFirst (operand_bits o)
 operand_first (operand.Accumulator n) low = accumulator n low
 operand_first (operand.FileA n unpack) h = first_then (Word (source_a n) ∷ []) (unpack_bits unpack) (source_a_first n h.0) (unpack_later unpack h.1)
 operand_first (operand.FileB n) h = source_b_first n h
-operand_first (operand.Small code) low = a_number (small_figure code) (small_number code low)
+operand_first (operand.Small code) low = a_number (small_figure code) (small_number code)
 
 -- parts
 

@@ -1,10 +1,9 @@
 -- How the bits of a line make one text, at the end and where a fault cuts it off.
-use Rattle.std.proofs.Common.{◌≡◌, ℕ, ◌/◌, ◌%◌, ◌^◌, List, [], ◌∷◌, ◌++◌, Result, Ok, Err, IsErr, sym, ap, ◌∙◌, append_assoc, flat_map, map, refl, arith}
+use Rattle.std.proofs.Common.{◌≡◌, ℕ, List, [], ◌∷◌, ◌++◌, Result, Ok, Err, IsErr, sym, ap, ◌∙◌, append_assoc, flat_map, map}
 use Rattle.std.proofs.lemmas.List.Concat.{flat_map-append}
 use Rattle.std.proofs.lemmas.List.Folds.{flat_map-map}
 use Rattle.std.proofs.lemmas.Bool.{false≢true}
 use Rattle.qpu_io.specs.Output.{Output, appended, Cut, Prints}
-use Rattle.qpu_io.specs.Text.{hex8}
 use Rattle.qpu_io.proofs.Outputs.{appended_then, appended_none, cut_more, cut_after}
 use Rattle.qpu_word.specs.declared.word.Word.{Word}
 use Rattle.qpu_line.specs.Lines.{Bit}
@@ -85,36 +84,6 @@ pub ruleset texts = (text_later, text_cut)
 pub no_bits : (o : Output) → o ≡ appended o (bits_text [])
 unfolding bits_text
 no_bits o = sym (appended_none o)
-
--- each digit of a number is one of its low 32 bits
-digit_7 : (n : ℕ) → n % 0x1_0000_0000 / 0x1000_0000 % 16 ≡ n / 0x1000_0000 % 16
-digit_7 n = omega arith
-
-digit_6 : (n : ℕ) → n % 0x1_0000_0000 / 0x100_0000 % 16 ≡ n / 0x100_0000 % 16
-digit_6 n = omega arith
-
-digit_5 : (n : ℕ) → n % 0x1_0000_0000 / 0x10_0000 % 16 ≡ n / 0x10_0000 % 16
-digit_5 n = omega arith
-
-digit_4 : (n : ℕ) → n % 0x1_0000_0000 / 0x1_0000 % 16 ≡ n / 0x1_0000 % 16
-digit_4 n = omega arith
-
-digit_3 : (n : ℕ) → n % 0x1_0000_0000 / 0x1000 % 16 ≡ n / 0x1000 % 16
-digit_3 n = omega arith
-
-digit_2 : (n : ℕ) → n % 0x1_0000_0000 / 0x100 % 16 ≡ n / 0x100 % 16
-digit_2 n = omega arith
-
-digit_1 : (n : ℕ) → n % 0x1_0000_0000 / 0x10 % 16 ≡ n / 0x10 % 16
-digit_1 n = omega arith
-
-digit_0 : (n : ℕ) → n % 0x1_0000_0000 % 16 ≡ n % 16
-digit_0 n = omega arith
-
--- of a number the low 32 bits are written
-pub hex8_low : (n : ℕ) → hex8 (n % 2 ^ 32) ≡ hex8 n
-unfolding hex8
-hex8_low n = rw (digit_7 n, digit_6 n, digit_5 n, digit_4 n, digit_3 n, digit_2 n, digit_1 n, digit_0 n) refl
 
 -- the line of a word of the code
 abbrev pub line_of_word : Word → List ℕ

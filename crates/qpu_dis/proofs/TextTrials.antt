@@ -6,7 +6,7 @@ use Rattle.qpu_word.specs.Words.{has_fault, word_fault}
 use Rattle.qpu_word.specs.Form.{word_form, form_of}
 use Rattle.qpu_word.specs.Operations.{add_op, mul_op}
 use Rattle.qpu_word.specs.Names.{row_name, read_name, write_name}
-use Rattle.qpu_io.specs.Text.{hex8}
+use Rattle.qpu_text.specs.Digits.{hex_digits}
 use Rattle.qpu_line.specs.declared.symbol.Symbol.TheVariants as symbol
 use Rattle.qpu_line.specs.declared.name.Name.TheVariants as name
 use Rattle.qpu_line.specs.Canonical.{canonical_instruction}
@@ -28,7 +28,7 @@ unfolding canonical_line bits_text line_bits units_bits spelling register_spelli
 end_line = refl
 
 other_line : canonical_line 0x100009e7009e7001 ≡ codes ".word 0x100009e7009e7001"
-unfolding canonical_line canonical_instruction word_form word_fault has_fault form_of keeps_rules add_rule mul_rule operand_rule flags_rule exchange_rule row_rule small_rule load_rule semaphore_rule branch_rule instruction_of units_of part_of signal_of target_at_address hex8
+unfolding canonical_line canonical_instruction word_form word_fault has_fault form_of keeps_rules add_rule mul_rule operand_rule flags_rule exchange_rule row_rule small_rule load_rule semaphore_rule branch_rule instruction_of units_of part_of signal_of target_at_address hex_digits
 other_line = refl
 
 pub worked_text : disassembly (0x1002082715827d80 ∷ 0x300009e7009e7000 ∷ 0x100009e7009e7001 ∷ [])

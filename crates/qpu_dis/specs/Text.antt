@@ -1,7 +1,7 @@
 -- This project's own: the text of canonical lines, and of the words that have none.
-use Rattle.std.specs.Prelude.{ℕ, ◌-◌, ◌/◌, ◌%◌, ◌^◌, ◌==◌, ◌&&◌, Bool, not, is_some, if◌then◌else◌, List, [], ◌∷◌, ◌++◌, flat_map, decimal, codes, Option, Some, None}
+use Rattle.std.specs.Prelude.{ℕ, ◌-◌, ◌==◌, ◌&&◌, Bool, not, is_some, if◌then◌else◌, List, [], ◌∷◌, ◌++◌, flat_map, decimal, codes, Option, Some, None}
 use Rattle.qpu_word.specs.declared.code.TheConstants.{ROTATE_BY_R5}
-use Rattle.qpu_io.specs.Text.{hex8}
+use Rattle.qpu_text.specs.Digits.{hex_digits}
 use Rattle.qpu_line.specs.declared.instruction.Instruction.{Instruction}
 use Rattle.qpu_line.specs.declared.operand.Operand.{Operand}
 use Rattle.qpu_line.specs.declared.branch.Branch.{Branch}
@@ -17,7 +17,7 @@ use Rattle.qpu_line.specs.Lines.{Figure, Decimal, Negative, Hexadecimal, Bit, Wo
 abbrev pub figure_text : Figure → List ℕ
 figure_text (Decimal n) = decimal n
 figure_text (Negative n) = codes "-" ++ decimal n
-figure_text (Hexadecimal n) = codes "0x" ++ hex8 n
+figure_text (Hexadecimal n) = codes "0x" ++ hex_digits 8 n
 
 abbrev pub bit_text : Bit → List ℕ
 bit_text (Word name) = spelling name
@@ -63,7 +63,7 @@ parts_bits u = add_bits u.sets u.add ++ mul_bits (u.sets && not (is_some u.add))
 
 -- a word that isn't canonical
 abbrev pub plain_text : ℕ → List ℕ
-plain_text word = codes ".word 0x" ++ hex8 (word / 2 ^ 32) ++ hex8 (word % 2 ^ 32)
+plain_text word = codes ".word 0x" ++ hex_digits 16 word
 
 -- the line of a canonical word, or the word itself
 abbrev pub line_or_word : ℕ → Option Instruction → List ℕ

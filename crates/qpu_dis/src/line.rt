@@ -10,11 +10,6 @@ use qpu_io::{Piece, Sink, SinkFailed, put_all, write_all_of};
 use qpu_line::Instruction;
 use qpu_word::Word;
 
-/// Bits of half a word, and how many numbers it has.
-const HALF: u32 = 32;
-
-const HALVES: u64 = 1 << HALF;
-
 /// Writes the line of an instruction.
 #[tactic(auto, unfolding(qpu_line::specs::Lines::line_bits))]
 fn put_instruction<K: Sink>(instruction: &Instruction, sink: &mut K) -> Result<(), SinkFailed>
@@ -32,12 +27,10 @@ fn put_instruction<K: Sink>(instruction: &Instruction, sink: &mut K) -> Result<(
 fn put_word<K: Sink>(word: Word, sink: &mut K) -> Result<(), SinkFailed>
     ensures { Prints (K.shown sink.old) (K.shown sink.new) (plain_text word.0) result }
 {
-    let pieces = [
-        Piece::Text(b".word 0x"),
-        Piece::Word((word.0 >> HALF) as u32),
-        Piece::Word((word.0 % HALVES) as u32),
-    ];
-    put_all(&pieces, sink)
+    put_all(
+        &[Piece::Text(b".word 0x"), Piece::Instruction(word.0)],
+        sink,
+    )
 }
 
 /// Writes the line of a canonical word without its end, and `.word 0x` with sixteen lower-case digits

@@ -11,7 +11,8 @@ use Rattle.std.proofs.lemmas.List.Sums.{AllPass-from_list_all}
 use Rattle.std.proofs.lemmas.Str.{IsAscii-append, IsUtf8-from_ascii}
 use Rattle.std.proofs.lemmas.Str.Ascii.{IsAscii-nil}
 use Rattle.qpu_token.specs.Words.{is_name_byte, is_run}
-use Rattle.qpu_io.specs.Text.{hex_digit, hex8}
+use Rattle.qpu_text.specs.Digits.{hex_digit, hex_digits}
+use Rattle.qpu_text.proofs.DigitLemmas.{digits_long, digits_pass}
 use Rattle.qpu_word.specs.declared.code.TheConstants.{ROWS}
 use Rattle.qpu_word.specs.Names.{two_digits, row_name, read_name, write_name}
 use Rattle.qpu_line.specs.declared.name.Name.{Name}
@@ -113,33 +114,10 @@ digit_low d low = by_size (nat_lt d 10) refl
     by_size true e = grind (arith, nat_tests, e)
     by_size false e = grind (arith, nat_tests, e)
 
-low_digit : (n k : ℕ) → n / k % 16 < 16
-low_digit n k = omega arith
-
-lowest_digit : (n : ℕ) → n % 16 < 16
-lowest_digit n = omega arith
-
-digits_low : (n : ℕ) → list_all is_low (hex8 n) ≡ true
-unfolding hex8
-digits_low n =
-    rw (
-      digit_low (n / 0x1000_0000 % 16) (low_digit n 0x1000_0000),
-      digit_low (n / 0x100_0000 % 16) (low_digit n 0x100_0000),
-      digit_low (n / 0x10_0000 % 16) (low_digit n 0x10_0000),
-      digit_low (n / 0x1_0000 % 16) (low_digit n 0x1_0000),
-      digit_low (n / 0x1000 % 16) (low_digit n 0x1000),
-      digit_low (n / 0x100 % 16) (low_digit n 0x100),
-      digit_low (n / 0x10 % 16) (low_digit n 0x10),
-      digit_low (n % 16) (lowest_digit n),
-    )
-    refl
-
-eight : (n : ℕ) → length (hex8 n) ≤ 8
-unfolding hex8
-eight n = omega arith
-
-hex_plain : (n : ℕ) → IsPlain 8 (hex8 n)
-hex_plain n = record { ascii = passed_ascii is_low low_by (hex8 n) (digits_low n); few = eight n }
+hex_plain : (k n : ℕ) → IsPlain k (hex_digits k n)
+hex_plain k n =
+    let long = digits_long k n in
+    record { ascii = passed_ascii is_low low_by (hex_digits k n) (digits_pass is_low digit_low k n); few = omega arith }
 
 of_text : (bytes : List ℕ) → list_all (λ byte. nat_lt byte 128) bytes ≡ true → IsPlain (length bytes) bytes
 unfolding is_low
@@ -151,7 +129,7 @@ decimal_plain n low = record { ascii = IsAscii-decimal n (omega arith); few = le
 figure_plain : (figure : Figure) → IsNumber figure → IsPlain 16 (figure_text figure)
 figure_plain (Decimal n) low = at_most 10 16 (decimal n) (omega arith) (decimal_plain n low)
 figure_plain (Negative n) low = at_most 11 16 _ (omega arith) (both 1 10 (codes "-") (decimal n) (of_text (codes "-") refl) (decimal_plain n low))
-figure_plain (Hexadecimal n) low = at_most 10 16 _ (omega arith) (both 2 8 (codes "0x") (hex8 n) (of_text (codes "0x") refl) (hex_plain n))
+figure_plain (Hexadecimal n) low = at_most 10 16 _ (omega arith) (both 2 8 (codes "0x") (hex_digits 8 n) (of_text (codes "0x") refl) (hex_plain 8 n))
 
 -- bits
 
@@ -195,7 +173,7 @@ bits_plain dotted (bit ∷ bits) stand =
 line_plain : (w : ℕ) (o : Option Instruction) → canonical_instruction w ≡ o → IsPlain 1024 (line_or_word w o)
 line_plain w None is =
     at_most 24 1024 (plain_text w) (omega arith)
-    (both 16 8 _ (hex8 (w % 2 ^ 32)) (both 8 8 (codes ".word 0x") (hex8 (w / 2 ^ 32)) (of_text (codes ".word 0x") refl) (hex_plain (w / 2 ^ 32))) (hex_plain (w % 2 ^ 32)))
+    (both 8 16 (codes ".word 0x") (hex_digits 16 w) (of_text (codes ".word 0x") refl) (hex_plain 16 w))
 line_plain w (Some i) is =
     let few = few_bits i in
     at_most (16 * length (line_bits i)) 1024 _ (omega arith) (bits_plain false (line_bits i) (line_can_stand w i is))

@@ -6,6 +6,7 @@ use Rattle.qpu_word.specs.declared.name.Place.{Place}
 use Rattle.qpu_word.specs.declared.name.Place.TheVariants as place
 use Rattle.qpu_word.specs.declared.code.TheConstants.{ROWS, NOWHERE, WRITE_R0, WRITE_R3, WRITE_VPM, ROTATE_BY_R5}
 use Rattle.qpu_word.specs.Operations.{add_op, mul_op}
+use Rattle.qpu_word.specs.Operands.{immediate_of}
 use Rattle.qpu_word.specs.Words.{is_unary}
 use Rattle.qpu_line.specs.declared.operand.Operand.{Operand}
 use Rattle.qpu_line.specs.declared.operand.Operand.TheVariants as operand
@@ -26,6 +27,7 @@ use Rattle.qpu_line.specs.Loads.{write_target}
 use Rattle.qpu_line.specs.Named.{IsNamedOperand, IsNamedPart, IsAddPart, IsMulPart, IsNamedSignal, IsNamed, HasWord}
 use Rattle.qpu_line.specs.Worded.{IsSemaphore, IsLoad, IsBranch}
 use Rattle.qpu_line.specs.Lines.{Figure, Decimal, Hexadecimal, Bit, Word, Number, Dot, Dash, Space, source_a, source_b, target_bits, suffix, condition_bits, branch_condition_bits, flags_bits, pack_bits, unpack_bits, small_figure, signed_figure, operand_bits, and_then, behind, part_bits, add_name, mul_name, add_bits, mul_bits, signal_bits, other_bits, units_bits, write_bits, also_bits, load_bits, semaphore_bits, is_nowhere, link_bits, row_bits, branch_bits, line_bits}
+use Rattle.qpu_line.proofs.ImmediateLemmas.{immediate_fits}
 use Rattle.qpu_inverse.proofs.Bits.{IsFigure, AreSuffixes}
 use Rattle.qpu_inverse.proofs.Operands.{IsOperand, no_operand, named_operand, suffixed_operand, no_target, no_target_suffixed, number_operand}
 use Rattle.qpu_inverse.proofs.Pieces.{IsPiece}
@@ -99,20 +101,18 @@ number_by : (b : Bool) (x y : Figure) → (b ≡ true → IsFigure x) → (b ≡
 number_by true x y p q = p refl
 number_by false x y p q = q refl
 
-small_number : (code : ℕ) → code < 48 → IsFigure (small_figure code)
-small_number code low =
-    number_by (nat_lt code 16) _ _ (λ e. omega arith)
-    (λ e. number_by (nat_lt code 32) _ _ (λ t. (grind (arith, nat_tests, t), omega arith))
-    (λ t. number_by (nat_lt code 40) _ _ (λ u. grind (arith, nat_tests, low, t, u)) (λ u. grind (arith, nat_tests, low, u))))
-
 signed_number : (n : ℕ) → n < 2 ^ 32 → IsFigure (signed_figure n)
 signed_number n low = number_by (nat_lt n (2 ^ 31)) _ _ (λ e. low) (λ e. (omega arith, grind (arith, nat_tests, low, e)))
+
+small_number : (code : ℕ) → IsFigure (small_figure code)
+small_number code =
+    number_by (nat_lt code 32) _ _ (λ e. signed_number (immediate_of code) (immediate_fits code)) (λ e. immediate_fits code)
 
 read_operand : (text : List ℕ) (o : Operand) → IsNamedOperand o → IsOperand text (operand_bits o)
 read_operand text (operand.Accumulator n) h = named_operand text _
 read_operand text (operand.FileA n unpack) h = name_then text (source_a n) (unpack_bits unpack) (unpack_one unpack)
 read_operand text (operand.FileB n) h = named_operand text _
-read_operand text (operand.Small code) h = number_operand text (small_figure code) (small_number code h)
+read_operand text (operand.Small code) h = number_operand text (small_figure code) (small_number code)
 
 -- the first piece of a part: its name, suffixes, and a target
 

@@ -1,12 +1,13 @@
 //! Texts written piece by piece.
 
-ghost use Rattle.std.specs.Prelude.{◌≡◌, ◌<◌};
+ghost use Rattle.std.specs.Prelude.{◌≡◌};
 ghost use Rattle.qpu_io.specs.Output.{Prints};
-ghost use Rattle.qpu_io.specs.Text.{hex_digit, hex8, lane_text, lanes_text, piece_text, pieces_text};
+ghost use Rattle.qpu_io.specs.Text.{lane_text, lanes_text, piece_text, pieces_text};
 
 use crate::stream::{Sink, SinkFailed};
 use crate::writing::write_all_of;
 use itoa::Buffer;
+use qpu_text::hex_digits;
 
 /// A piece of a line.
 #[derive(Clone, Copy, Debug)]
@@ -15,8 +16,12 @@ pub enum Piece<'a> {
     Text(&'a [u8]),
     /// A number in decimal.
     Decimal(u64),
+    /// The low sixteen bits of a mask as four lower-case hexadecimal digits.
+    Mask(u32),
     /// A word as eight lower-case hexadecimal digits.
     Word(u32),
+    /// An instruction word as sixteen lower-case hexadecimal digits.
+    Instruction(u64),
     /// Words, each behind a space.
     Lanes(&'a [u32]),
 }
@@ -37,7 +42,9 @@ fn put_piece<K: Sink>(piece: Piece<'_>, sink: &mut K) -> Result<(), SinkFailed>
     match piece {
         Piece::Text(bytes) => write_all_of(sink, bytes),
         Piece::Decimal(n) => write_all_of(sink, Buffer::new().format(n).as_bytes()),
-        Piece::Word(n) => write_all_of(sink, &digits_of(n)),
+        Piece::Mask(n) => write_all_of(sink, &hex_digits::<4>(u64::from(n))),
+        Piece::Word(n) => write_all_of(sink, &hex_digits::<8>(u64::from(n))),
+        Piece::Instruction(n) => write_all_of(sink, &hex_digits::<16>(n)),
         Piece::Lanes(lanes) => put_lanes(lanes, sink),
     }
 }
@@ -55,34 +62,6 @@ fn put_lanes<K: Sink>(lanes: &[u32], sink: &mut K) -> Result<(), SinkFailed>
 fn lane_of(n: u32) -> [u8; 9]
     ensures { result ≡ lane_text n }
 {
-    let [a, b, c, d, e, f, g, h] = digits_of(n);
+    let [a, b, c, d, e, f, g, h] = hex_digits::<8>(u64::from(n));
     [b' ', a, b, c, d, e, f, g, h]
-}
-
-#[tactic(auto, unfolding(crate::specs::Text::hex8))]
-fn digits_of(n: u32) -> [u8; 8]
-    ensures { result ≡ hex8 n }
-{
-    [
-        digit_of(n >> 28),
-        digit_of((n >> 24) & 15),
-        digit_of((n >> 20) & 15),
-        digit_of((n >> 16) & 15),
-        digit_of((n >> 12) & 15),
-        digit_of((n >> 8) & 15),
-        digit_of((n >> 4) & 15),
-        digit_of(n & 15),
-    ]
-}
-
-// The lower-case digit.
-fn digit_of(n: u32) -> u8
-    requires { n < 16 }
-    ensures { result ≡ hex_digit n }
-{
-    if n < 10 {
-        b'0' + n as u8
-    } else {
-        b'a' + (n as u8 - 10)
-    }
 }

@@ -69,12 +69,14 @@ fn puts_each_kind_of_piece(rt: HostRuntime) -> Result<(), Fail> {
         Piece::Text(b"r"),
         Piece::Decimal(18_446_744_073_709_551_615),
         Piece::Text(b" "),
+        Piece::Mask(0xf09a),
         Piece::Word(0x0123_abcd),
+        Piece::Instruction(0xfedc_ba98_7654_3210),
         Piece::Lanes(&[0, 0xffff_ffff, 0x6789_ef00]),
         Piece::Text(b"\n"),
     ];
     assert_eq!(rt; put_all(&row, &mut sink), Ok(()));
-    let want = b"r18446744073709551615 0123abcd 00000000 ffffffff 6789ef00\n";
+    let want = b"r18446744073709551615 f09a0123abcdfedcba9876543210 00000000 ffffffff 6789ef00\n";
     assert_eq!(rt; sink.bytes(), want.as_slice());
     Ok(())
 }

@@ -27,3 +27,4 @@ pub mod PlainNames
 pub mod EachLaw
 pub mod AddressNames
 pub mod FitLaw
+pub mod ImmediateLemmas

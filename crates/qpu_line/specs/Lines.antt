@@ -1,6 +1,6 @@
 -- This project's own: the canonical line of an instruction, as bits that follow one another. It is the
 -- one place that says what is written, in which order, and where spaces stand.
-use Rattle.std.specs.Prelude.{ℕ, ◌+◌, ◌-◌, ◌*◌, ◌^◌, ◌==◌, ◌&&◌, Bool, false, not, nat_lt, nat_le, List, [], ◌∷◌, ◌++◌, flat_map, Option, Some, None, is_some, if◌then◌else◌}
+use Rattle.std.specs.Prelude.{ℕ, ◌-◌, ◌^◌, ◌==◌, ◌&&◌, Bool, false, not, nat_lt, nat_le, List, [], ◌∷◌, ◌++◌, flat_map, Option, Some, None, is_some, if◌then◌else◌}
 use Rattle.qpu_word.specs.declared.name.Place.{Place}
 use Rattle.qpu_word.specs.declared.name.Place.TheVariants as place
 use Rattle.qpu_word.specs.declared.operation.AddOp.{AddOp}
@@ -9,6 +9,7 @@ use Rattle.qpu_word.specs.declared.operation.MulOp.{MulOp}
 use Rattle.qpu_word.specs.declared.operation.MulOp.TheVariants as mul
 use Rattle.qpu_word.specs.declared.code.TheConstants.{ROWS, NOWHERE, READ_VPM, WRITE_R0, WRITE_R3, WRITE_VPM, ROTATE_BY_R5}
 use Rattle.qpu_word.specs.Operations.{add_op, mul_op}
+use Rattle.qpu_word.specs.Operands.{immediate_of}
 use Rattle.qpu_word.specs.Words.{is_unary}
 use Rattle.qpu_line.specs.declared.operand.Operand.{Operand}
 use Rattle.qpu_line.specs.declared.operand.Operand.TheVariants as operand
@@ -92,17 +93,13 @@ unpack_bits unpack =
 
 -- numbers
 
--- the value of a small immediate's code
-abbrev pub small_figure : ℕ → Figure
-small_figure code =
-    if nat_lt code 16 then Decimal code
-    else if nat_lt code 32 then Negative (32 - code)
-    else if nat_lt code 40 then Hexadecimal (0x3f800000 + (code - 32) * 0x00800000)
-    else Hexadecimal (0x3b800000 + (code - 40) * 0x00800000)
-
 -- a number of 32 bits with a sign
 abbrev pub signed_figure : ℕ → Figure
 signed_figure n = if nat_lt n (2 ^ 31) then Decimal n else Negative (2 ^ 32 - n)
+
+-- the immediate of a code: a whole number from -16 to 15, or a power of 2 as a floating point number
+abbrev pub small_figure : ℕ → Figure
+small_figure code = if nat_lt code 32 then signed_figure (immediate_of code) else Hexadecimal (immediate_of code)
 
 -- both units
 

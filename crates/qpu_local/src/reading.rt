@@ -5,9 +5,9 @@ ghost use Rattle.qpu_word.specs.Words.{is_small};
 ghost use Rattle.qpu_word.specs.Operands.{row_of, read_a, read_b, operand, unpacked, immediate_of, bit_of};
 
 use crate::processor::Processor;
-use qpu_pack::{small_value, unpack};
+use qpu_pack::{immediate_of, unpack};
 use qpu_word::code::{
-    MUX_FILE_A, MUX_FILE_B, READ_DMA_BUSY, READ_NUMBER, READ_UNIFORM, READ_VPM, ROTATE_BY_R5, ROWS,
+    MUX_FILE_A, MUX_FILE_B, READ_DMA_BUSY, READ_NUMBER, READ_UNIFORM, READ_VPM, ROWS,
 };
 use qpu_word::{Fields, Ins, LANES, Lanes};
 
@@ -37,17 +37,6 @@ fn bits(on: bool) -> Lanes
     ensures { Gives result.v (λ i. bit_of on) }
 {
     repeated(if on { 1 } else { 0 })
-}
-
-/// The immediate of a small immediate word, 0 for a code that rotates.
-fn immediate(code: u32) -> u32
-    ensures { result ≡ immediate_of code }
-{
-    if code < ROTATE_BY_R5 {
-        small_value(code)
-    } else {
-        0
-    }
 }
 
 impl Processor {
@@ -104,7 +93,7 @@ impl Processor {
         ensures { Gives result.v (λ i. if is_small f.now then immediate_of f.now.raddr_b else read_b self.now ins.now f.now.raddr_b i) }
     {
         if f.is_small() {
-            repeated(immediate(f.raddr_b))
+            repeated(immediate_of(f.raddr_b))
         } else {
             self.read_b(ins, f.raddr_b)
         }

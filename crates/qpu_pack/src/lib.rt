@@ -12,7 +12,7 @@ mod unpacking;
 
 pub use packing::pack_into;
 pub use rotation::rotate;
-pub use small::{small_code, small_value};
+pub use small::{immediate_of, small_code};
 pub use unpacking::unpack;
 
 /// How many values a half word has.

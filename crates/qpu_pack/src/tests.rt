@@ -1,4 +1,4 @@
-use crate::{pack_into, rotate, small_code, small_value, unpack};
+use crate::{immediate_of, pack_into, rotate, small_code, unpack};
 use qpu_word::{LANES, Lanes};
 
 /// What is packed: values that clamp and that don't.
@@ -265,7 +265,7 @@ const IMMEDIATES: [u32; 48] = [
 fn each_small_immediate_has_its_code(rt: HostRuntime) {
     for code in 0..48u32 {
         let value = IMMEDIATES[code as usize];
-        assert!(rt; small_value(code) == value, "code {code}");
+        assert!(rt; immediate_of(code) == value, "code {code}");
         assert!(rt; small_code(value) == Some(code), "value {value}");
     }
     for value in [

@@ -6,7 +6,9 @@ use Rattle.std.specs.Fmt.{digits, digits_onto, digit_glyph}
 use Rattle.std.proofs.lemmas.Bool.Decides.{nat_tests}
 use Rattle.std.proofs.lemmas.List.Elements.{All-nil, All-cons, All-head, All-tail}
 use Rattle.std.proofs.lemmas.List.Folds.{list_all-append}
-use Rattle.qpu_io.specs.Text.{joined, in_turn, numbered, hex_digit, hex8, lane_text, lanes_text}
+use Rattle.qpu_text.specs.Digits.{hex_digit, hex_digits}
+use Rattle.qpu_text.proofs.DigitLemmas.{digits_pass}
+use Rattle.qpu_io.specs.Text.{joined, in_turn, numbered, lane_text, lanes_text}
 
 -- whether each byte is ASCII
 abbrev pub is_low : ℕ → Bool
@@ -98,23 +100,8 @@ low_decimal n = digits_low 64 n [] refl
 hex_low : (n : ℕ) → n < 16 → is_low (hex_digit n) ≡ true
 hex_low n less = grind (arith, nat_tests)
 
-pub low_hex_digit : (n : ℕ) → is_low (hex_digit (n % 16)) ≡ true
-low_hex_digit n = hex_low (n % 16) (omega arith)
-
-pub both_low : {a b : Bool} → a ≡ true → b ≡ true → (a && b) ≡ true
-both_low first rest = rw (first, rest) refl
-
-pub low_hex8 : (n : ℕ) → IsLow (hex8 n)
-unfolding hex8
-low_hex8 n =
-    both_low (low_hex_digit (n / 0x1000_0000))
-    (both_low (low_hex_digit (n / 0x100_0000))
-    (both_low (low_hex_digit (n / 0x10_0000))
-    (both_low (low_hex_digit (n / 0x1_0000))
-    (both_low (low_hex_digit (n / 0x1000))
-    (both_low (low_hex_digit (n / 0x100))
-    (both_low (low_hex_digit (n / 0x10))
-    (both_low (low_hex_digit n) refl)))))))
+pub low_hex : (k n : ℕ) → IsLow (hex_digits k n)
+low_hex k n = digits_pass is_low hex_low k n
 
 pub low_lanes : (lanes : List ℕ) → IsLow (lanes_text lanes)
-low_lanes lanes = low_flat_map lane_text lanes (λ n. low_cons 32 (hex8 n) refl (low_hex8 n))
+low_lanes lanes = low_flat_map lane_text lanes (λ n. low_cons 32 (hex_digits 8 n) refl (low_hex 8 n))

@@ -2,7 +2,8 @@
 use Rattle.std.proofs.Common.{◌+◌, ◌-◌, ◌*◌, ◌/◌, ℕ, Bool, true, false, List, [], ◌∷◌, length, Option, Some, None, refl}
 use Rattle.std.specs.Prelude.{◌==◌, decimal, codes, slice_index}
 use Rattle.std.specs.List.{range_with_len}
-use Rattle.qpu_io.specs.Text.{joined, numbered, hex8, lanes_text}
+use Rattle.qpu_text.specs.Digits.{hex_digits}
+use Rattle.qpu_io.specs.Text.{joined, numbered, lanes_text}
 use Rattle.qpu_word.specs.declared.state.Halt.{Halt}
 use Rattle.qpu_word.specs.declared.state.Halt.TheVariants.{Going, Ended, Faulted}
 use Rattle.qpu_word.specs.declared.fault.SetupFault.{SetupFault}
@@ -21,9 +22,9 @@ use Rattle.qpu_machine.specs.declared.conclusion.Ending.{Ending}
 use Rattle.qpu_machine.specs.declared.conclusion.Ending.TheVariants as ending
 use Rattle.qpu_machine.specs.Machine.{MachineState, words_of}
 use Rattle.qpu_machine.specs.Ending.{ending_of}
-use Rattle.qpu_report.specs.Report.{is_clear, row_line, setup_fault_text, fault_text, cause_text, going_text, halt_text, halt_of, counts_text, processor_line, hex4, carry_text, zn_line, flags_line, processor_text, started_text, group, vpm_line, vpm_text, memory_line, group_line, memory_text, semaphore_line, mutex_line, ending_line, shared_text, report_text}
+use Rattle.qpu_report.specs.Report.{is_clear, row_line, setup_fault_text, fault_text, cause_text, going_text, halt_text, halt_of, counts_text, processor_line, carry_text, zn_line, flags_line, processor_text, started_text, group, vpm_line, vpm_text, memory_line, group_line, memory_text, semaphore_line, mutex_line, ending_line, shared_text, report_text}
 use Rattle.qpu_printed.specs.Ascii.{ReportsAreAscii}
-use Rattle.qpu_printed.proofs.AsciiLemmas.{IsLow, all_low, both_low, low_joined, low_in_turn, low_numbered, low_flat_map, low_unless, low_decimal, low_hex_digit, low_hex8, low_lanes}
+use Rattle.qpu_printed.proofs.AsciiLemmas.{IsLow, all_low, low_joined, low_in_turn, low_numbered, low_flat_map, low_unless, low_decimal, low_hex, low_lanes}
 
 low_row : (name : List ℕ) (k : ℕ) (values : List ℕ) → IsLow name → IsLow (row_line name k values)
 low_row name k values low =
@@ -87,22 +88,15 @@ low_line m q p =
     low_in_turn (joined (codes "qpu " ∷ decimal q ∷ codes " " ∷ []) ∷ halt_of m q p ∷ counts_text p ∷ [])
     (low_joined (codes "qpu " ∷ decimal q ∷ codes " " ∷ []) (refl, (low_decimal q, (refl, tt))), (low_halt_of m q p, (low_counts p, tt)))
 
-low_hex4 : (n : ℕ) → IsLow (hex4 n)
-low_hex4 n =
-    both_low (low_hex_digit (n / 0x1000))
-    (both_low (low_hex_digit (n / 0x100))
-    (both_low (low_hex_digit (n / 0x10))
-    (both_low (low_hex_digit n) refl)))
-
 low_carry : (c : Option ℕ) → IsLow (carry_text c)
 low_carry None = refl
-low_carry (Some c) = low_hex4 c
+low_carry (Some c) = low_hex 4 c
 
 low_flags : (zn : Option (ℕ × ℕ)) (c : Option ℕ) → IsLow (zn_line zn c)
 low_flags None c = refl
 low_flags (Some zn) c =
-    low_joined (codes "flags z " ∷ hex4 zn.0 ∷ codes " n " ∷ hex4 zn.1 ∷ codes " c " ∷ carry_text c ∷ codes "\n" ∷ [])
-    (refl, (low_hex4 zn.0, (refl, (low_hex4 zn.1, (refl, (low_carry c, (refl, tt)))))))
+    low_joined (codes "flags z " ∷ hex_digits 4 zn.0 ∷ codes " n " ∷ hex_digits 4 zn.1 ∷ codes " c " ∷ carry_text c ∷ codes "\n" ∷ [])
+    (refl, (low_hex 4 zn.0, (refl, (low_hex 4 zn.1, (refl, (low_carry c, (refl, tt)))))))
 
 low_processor : (m : MachineState) (q : ℕ) (p : ProcessorState) → IsLow (processor_text m q p)
 unfolding processor_text
@@ -131,8 +125,8 @@ low_vpm vpm = low_flat_map (vpm_line vpm) (range_with_len 0 VPM_ROWS) (λ r. low
 
 low_group : (k : ℕ) (values : List ℕ) → IsLow (memory_line k values)
 low_group k values =
-    low_unless (is_clear values) (joined (codes "mem " ∷ hex8 (4 * GROUP * k) ∷ lanes_text values ∷ codes "\n" ∷ []))
-    (low_joined (codes "mem " ∷ hex8 (4 * GROUP * k) ∷ lanes_text values ∷ codes "\n" ∷ []) (refl, (low_hex8 (4 * GROUP * k), (low_lanes values, (refl, tt)))))
+    low_unless (is_clear values) (joined (codes "mem " ∷ hex_digits 8 (4 * GROUP * k) ∷ lanes_text values ∷ codes "\n" ∷ []))
+    (low_joined (codes "mem " ∷ hex_digits 8 (4 * GROUP * k) ∷ lanes_text values ∷ codes "\n" ∷ []) (refl, (low_hex 8 (4 * GROUP * k), (low_lanes values, (refl, tt)))))
 
 low_memory : (memory : List ℕ) → IsLow (memory_text memory)
 unfolding memory_text

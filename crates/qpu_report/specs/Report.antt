@@ -1,7 +1,8 @@
 -- The text of a report of a final machine. This project's own.
-use Rattle.std.specs.Prelude.{ℕ, ◌+◌, ◌-◌, ◌*◌, ◌/◌, ◌%◌, ◌==◌, Bool, true, false, List, [], ◌∷◌, length, flat_map, take, drop, decimal, codes, Option, Some, None, slice_index, if◌then◌else◌}
+use Rattle.std.specs.Prelude.{ℕ, ◌+◌, ◌-◌, ◌*◌, ◌/◌, ◌==◌, Bool, true, false, List, [], ◌∷◌, length, flat_map, take, drop, decimal, codes, Option, Some, None, slice_index, if◌then◌else◌}
 use Rattle.std.specs.List.{list_all, range_with_len}
-use Rattle.qpu_io.specs.Text.{joined, in_turn, numbered, hex_digit, hex8, lanes_text}
+use Rattle.qpu_text.specs.Digits.{hex_digits}
+use Rattle.qpu_io.specs.Text.{joined, in_turn, numbered, lanes_text}
 use Rattle.qpu_word.specs.declared.state.Flags.{Flags}
 use Rattle.qpu_word.specs.declared.state.Halt.{Halt}
 use Rattle.qpu_word.specs.declared.state.Halt.TheVariants.{Going, Ended, Faulted}
@@ -86,20 +87,15 @@ unfoldable pub processor_line : MachineState → ℕ → ProcessorState → List
 processor_line m q p =
     in_turn (joined (codes "qpu " ∷ decimal q ∷ codes " " ∷ []) ∷ halt_of m q p ∷ counts_text p ∷ [])
 
--- a mask as four hexadecimal digits
-abbrev pub hex4 : ℕ → List ℕ
-hex4 n =
-    hex_digit (n / 0x1000 % 16) ∷ hex_digit (n / 0x100 % 16) ∷ hex_digit (n / 0x10 % 16) ∷ hex_digit (n % 16) ∷ []
-
 -- the mask C, or four dashes where it is undefined
 abbrev pub carry_text : Option ℕ → List ℕ
 carry_text None = codes "----"
-carry_text (Some c) = hex4 c
+carry_text (Some c) = hex_digits 4 c
 
 -- the line of the flags, where Z and N are defined
 abbrev pub zn_line : Option (ℕ × ℕ) → Option ℕ → List ℕ
 zn_line None c = []
-zn_line (Some zn) c = joined (codes "flags z " ∷ hex4 zn.0 ∷ codes " n " ∷ hex4 zn.1 ∷ codes " c " ∷ carry_text c ∷ codes "\n" ∷ [])
+zn_line (Some zn) c = joined (codes "flags z " ∷ hex_digits 4 zn.0 ∷ codes " n " ∷ hex_digits 4 zn.1 ∷ codes " c " ∷ carry_text c ∷ codes "\n" ∷ [])
 
 -- the line of a processor's flags
 abbrev pub flags_line : Flags → List ℕ
@@ -139,7 +135,7 @@ vpm_text vpm = flat_map (vpm_line vpm) (range_with_len 0 VPM_ROWS)
 abbrev pub memory_line : ℕ → List ℕ → List ℕ
 memory_line k values =
     if is_clear values then []
-    else joined (codes "mem " ∷ hex8 (4 * GROUP * k) ∷ lanes_text values ∷ codes "\n" ∷ [])
+    else joined (codes "mem " ∷ hex_digits 8 (4 * GROUP * k) ∷ lanes_text values ∷ codes "\n" ∷ [])
 
 -- the line of the k-th group of memory
 abbrev pub group_line : List ℕ → ℕ → List ℕ

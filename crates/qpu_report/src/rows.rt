@@ -1,8 +1,8 @@
 //! Rows of values, and masks of flags.
-ghost use Rattle.std.specs.Prelude.{◌≡◌, ◌<◌, [], ◌∷◌, codes};
+ghost use Rattle.std.specs.Prelude.{◌≡◌, Some};
 ghost use Rattle.qpu_io.specs.Output.{Prints};
-ghost use Rattle.qpu_io.specs.Text.{joined, hex_digit};
-ghost use Rattle.qpu_report.specs.Report.{is_clear, row_line, hex4, carry_text, flags_line};
+ghost use Rattle.qpu_io.specs.Text.{piece_text};
+ghost use Rattle.qpu_report.specs.Report.{is_clear, row_line, carry_text, zn_line, flags_line};
 
 use qpu_io::{Piece, Sink, SinkFailed, put_all};
 use qpu_word::Flags;
@@ -43,67 +43,30 @@ pub(crate) fn put_flags<K: Sink>(flags: &Flags, sink: &mut K) -> Result<(), Sink
 {
     match flags.zn {
         None => Ok(()),
-        Some((z, n)) => {
-            put_masks(
-                &mask_digits(z),
-                &mask_digits(n),
-                &carry_digits(flags.c),
-                sink,
-            )
-        }
+        Some((z, n)) => put_masks(z, n, flags.c, sink),
     }
 }
 
-fn put_masks<'a, K: Sink>(
-    z: &'a [u8],
-    n: &'a [u8],
-    c: &'a [u8],
-    sink: &mut K,
-) -> Result<(), SinkFailed>
-    ensures { Prints (K.shown sink.old) (K.shown sink.new)
-        (joined (codes "flags z " ∷ z.now ∷ codes " n " ∷ n.now ∷ codes " c " ∷ c.now ∷ codes "\n" ∷ [])) result }
+fn put_masks<K: Sink>(z: u32, n: u32, c: Option<u32>, sink: &mut K) -> Result<(), SinkFailed>
+    ensures { Prints (K.shown sink.old) (K.shown sink.new) (zn_line (Some (z, n)) c) result }
 {
     let pieces = [
         Piece::Text(b"flags z "),
-        Piece::Text(z),
+        Piece::Mask(z),
         Piece::Text(b" n "),
-        Piece::Text(n),
+        Piece::Mask(n),
         Piece::Text(b" c "),
-        Piece::Text(c),
+        carry_piece(c),
         Piece::Text(b"\n"),
     ];
     put_all(&pieces, sink)
 }
 
-fn carry_digits(c: Option<u32>) -> [u8; 4]
-    ensures { result ≡ carry_text c }
+fn carry_piece(c: Option<u32>) -> Piece<'static>
+    ensures { piece_text result ≡ carry_text c }
 {
     match c {
-        None => *b"----",
-        Some(c) => mask_digits(c),
-    }
-}
-
-// The low sixteen bits as hexadecimal digits.
-fn mask_digits(n: u32) -> [u8; 4]
-    ensures { result ≡ hex4 n }
-{
-    [
-        digit_of((n >> 12) & 15),
-        digit_of((n >> 8) & 15),
-        digit_of((n >> 4) & 15),
-        digit_of(n & 15),
-    ]
-}
-
-// The lower-case digit.
-fn digit_of(n: u32) -> u8
-    requires { n < 16 }
-    ensures { result ≡ hex_digit n }
-{
-    if n < 10 {
-        b'0' + n as u8
-    } else {
-        b'a' + (n as u8 - 10)
+        None => Piece::Text(b"----"),
+        Some(c) => Piece::Mask(c),
     }
 }

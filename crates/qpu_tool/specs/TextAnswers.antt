@@ -1,6 +1,7 @@
 -- The answers to assembly text, and to words. This project's own.
-use Rattle.std.specs.Prelude.{◌≡◌, ◌≢◌, ℕ, ◌/◌, ◌%◌, ◌^◌, List, [], ◌∷◌, length, codes, decimal, flat_map, Ok, Err}
-use Rattle.qpu_io.specs.Text.{joined, hex8}
+use Rattle.std.specs.Prelude.{◌≡◌, ◌≢◌, ℕ, List, [], ◌∷◌, length, codes, decimal, flat_map, Ok, Err}
+use Rattle.qpu_text.specs.Digits.{hex_digits}
+use Rattle.qpu_io.specs.Text.{joined}
 use Rattle.qpu_token.specs.declared.fault.AsmKind.TheVariants as kind
 use Rattle.qpu_token.specs.declared.fault.AsmFault.{AsmFault}
 use Rattle.qpu_asm.specs.Assembly.{IsAssembly}
@@ -17,7 +18,7 @@ use Rattle.qpu_tool.specs.Answer.{Answer}
 
 -- the line of a word: sixteen digits
 abbrev pub word_line : ℕ → List ℕ
-word_line word = joined (codes "0x" ∷ hex8 (word / 2 ^ 32) ∷ hex8 (word % 2 ^ 32) ∷ codes "\n" ∷ [])
+word_line word = joined (codes "0x" ∷ hex_digits 16 word ∷ codes "\n" ∷ [])
 
 -- the lines of words
 unfoldable pub words_text : List ℕ → List ℕ

@@ -15,19 +15,13 @@ use qpu_io::{Piece, Sink, SinkFailed, put_all};
 use qpu_word::Word;
 use std::alloc::Global;
 
-/// Bits of half a word, and how many numbers it has.
-const HALF: u32 = 32;
-
-const HALVES: u64 = 1 << HALF;
-
 /// Writes the line of a word.
 fn put_word<K: Sink>(word: Word, sink: &mut K) -> Result<(), SinkFailed>
     ensures { Prints (K.shown sink.old) (K.shown sink.new) (word_line word.0) result }
 {
     let pieces = [
         Piece::Text(b"0x"),
-        Piece::Word((word.0 >> HALF) as u32),
-        Piece::Word((word.0 % HALVES) as u32),
+        Piece::Instruction(word.0),
         Piece::Text(b"\n"),
     ];
     put_all(&pieces, sink)

@@ -1,7 +1,8 @@
 -- Neighbouring steps of one actor in a record make one item; a report names only words that are not clear.
 use Rattle.std.proofs.Common.{◌≡◌, [], ◌∷◌, codes, refl}
 use Rattle.qpu_machine.specs.declared.actor.Actor.TheVariants.{Exec, Load, Store, Fetch}
-use Rattle.qpu_io.specs.Text.{in_turn, hex8}
+use Rattle.qpu_text.specs.Digits.{hex_digits}
+use Rattle.qpu_io.specs.Text.{in_turn}
 use Rattle.qpu_shared.specs.SharedState.{opening_shared}
 use Rattle.qpu_machine.specs.Machine.{machine_of}
 use Rattle.qpu_machine.specs.Ending.{ending_of}
@@ -17,10 +18,10 @@ items = refl
 
 -- the report of two words of memory and no processor
 two_words : report_text (machine_of (0 ∷ 7 ∷ []) 10 [] []) ≡ codes "report\nmem 00000000 00000000 00000007\nending done\nendreport\n"
-unfolding report_text shared_text in_turn hex8 memory_text vpm_text machine_of opening_shared ending_of
+unfolding report_text shared_text in_turn hex_digits memory_text vpm_text machine_of opening_shared ending_of
 two_words = refl
 
 -- the report of nine words: a group that is clear has no line, and the last has what remains
 nine_words : report_text (machine_of (0 ∷ 0 ∷ 0 ∷ 0 ∷ 0 ∷ 0 ∷ 0 ∷ 0 ∷ 0x89abcdef ∷ []) 10 [] []) ≡ codes "report\nmem 00000020 89abcdef\nending done\nendreport\n"
-unfolding report_text shared_text in_turn hex8 memory_text vpm_text machine_of opening_shared ending_of
+unfolding report_text shared_text in_turn hex_digits memory_text vpm_text machine_of opening_shared ending_of
 nine_words = refl
