@@ -1,7 +1,5 @@
 -- What is answered for a text, from what its stages answer.
-use Rattle.std.proofs.Common.{◌≡◌, ◌≢◌, ◌⊎◌, ℕ, List, map, sym, ◌∙◌, ap, subst, refl, Ok, Err, length, Bool, true, false, true≢false, inl, inr}
-use Rattle.std.specs.Prelude.{Result}
-use Rattle.qpu_word.specs.declared.word.Word.{Word}
+use Rattle.std.proofs.Common.{◌≡◌, ℕ, List, sym, ap, refl, Ok, Bool, true, false, true≢false, inl, inr}
 use Rattle.qpu_token.specs.declared.token.Token.{Token}
 use Rattle.qpu_token.specs.declared.fault.AsmKind.{AsmKind}
 use Rattle.qpu_token.specs.declared.fault.AsmKind.TheVariants as kind
@@ -13,7 +11,7 @@ use Rattle.qpu_expr.specs.Answer.{IsItsFault as IsExpansionFault}
 use Rattle.qpu_asm.specs.declared.stop.Stop.{Stop}
 use Rattle.qpu_asm.specs.declared.stop.Stop.TheVariants.{Fault, Memory}
 use Rattle.qpu_asm.specs.Answers.{answered, StopsBy}
-use Rattle.qpu_asm.specs.Assembly.{and_then, encoding, assembled, IsAssembly, IsItsFault}
+use Rattle.qpu_asm.specs.Assembly.{encoding, IsAssembly, IsItsFault}
 
 abbrev is_memory : AsmKind → Bool
 is_memory kind.Memory = true

@@ -1,6 +1,6 @@
 -- This project's own: how far an expression goes in a line whose expressions are worked out. One that
 -- isn't a single number or name there is malformed, and its place is told by this.
-use Rattle.std.specs.Prelude.{ℕ, zero, suc, ◌+◌, Bool, true, false, List, [], ◌∷◌, Option, Some, None, option_map}
+use Rattle.std.specs.Prelude.{ℕ, zero, suc, ◌+◌, List, [], ◌∷◌, Option, Some, None, option_map}
 use Rattle.qpu_line.specs.declared.symbol.Symbol.{Symbol}
 use Rattle.qpu_line.specs.declared.symbol.Symbol.TheVariants as symbol
 use Rattle.qpu_asm.specs.declared.expression.Due.{Due}

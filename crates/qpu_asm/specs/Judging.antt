@@ -1,7 +1,7 @@
 -- The faults of a line's marks, kind by kind. A mark is faulty by itself, or together with one before it.
 -- This project's own; what fits one word is told by the VideoCore IV 3D Architecture Reference Guide, "QPU
 -- Instruction Encoding".
-use Rattle.std.specs.Prelude.{ℕ, ◌==◌, ◌&&◌, ◌||◌, Bool, true, false, not, List, [], ◌∷◌, ◌++◌, Option, Some, None, option_map, if◌then◌else◌}
+use Rattle.std.specs.Prelude.{◌==◌, ◌&&◌, ◌||◌, Bool, true, false, not, List, [], ◌∷◌, ◌++◌, Option, Some, None, option_map, if◌then◌else◌}
 use Rattle.std.specs.Option.{option_or}
 use Rattle.std.specs.List.{list_any}
 use Rattle.qpu_token.specs.declared.token.Token.{Token}
@@ -9,7 +9,6 @@ use Rattle.qpu_token.specs.declared.fault.AsmKind.{AsmKind}
 use Rattle.qpu_token.specs.declared.fault.AsmKind.TheVariants as kind
 use Rattle.qpu_token.specs.declared.fault.AsmFault.{AsmFault}
 use Rattle.qpu_word.specs.declared.name.Place.{Place}
-use Rattle.qpu_word.specs.declared.name.Place.TheVariants as place
 use Rattle.qpu_line.specs.Targets.{in_file_a, in_file_b}
 use Rattle.qpu_asm.specs.declared.mark.What.{What}
 use Rattle.qpu_asm.specs.declared.mark.What.TheVariants as what

@@ -12,7 +12,6 @@ use Rattle.qpu_line.specs.declared.operand.Operand.{Operand}
 use Rattle.qpu_line.specs.declared.operand.Operand.TheVariants as operand
 use Rattle.qpu_line.specs.declared.name.Name.{Name}
 use Rattle.qpu_line.specs.declared.name.Name.TheVariants as name
-use Rattle.qpu_line.specs.declared.name.Register.{Register}
 use Rattle.qpu_line.specs.declared.name.Register.TheVariants as register
 use Rattle.qpu_line.specs.Targets.{address_of, is_row_a}
 use Rattle.qpu_asm.specs.declared.piece.Core.{Core}

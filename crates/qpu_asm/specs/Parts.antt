@@ -1,13 +1,12 @@
 -- Parts of a line, by their mnemonics: which pieces stand in which order. What their names stand for isn't
 -- judged here. This project's own.
-use Rattle.std.specs.Prelude.{Bool, true, false, List, Option, Result, Ok, Err, if◌then◌else◌}
+use Rattle.std.specs.Prelude.{Bool, true, false, List, Result, Ok, Err, if◌then◌else◌}
 use Rattle.qpu_token.specs.declared.token.Token.{Token}
 use Rattle.qpu_line.specs.declared.load.LoadKind.{LoadKind}
 use Rattle.qpu_line.specs.declared.units.Signal.TheVariants.{End, Load0, Load1}
 use Rattle.qpu_line.specs.declared.name.Name.{Name}
 use Rattle.qpu_line.specs.declared.name.Name.TheVariants as name
 use Rattle.qpu_asm.specs.declared.placed.Placed.{Placed}
-use Rattle.qpu_asm.specs.declared.piece.Suffix.{Suffix}
 use Rattle.qpu_asm.specs.declared.piece.Piece.{Piece}
 use Rattle.qpu_asm.specs.declared.part.Suffixes.{Suffixes}
 use Rattle.qpu_asm.specs.declared.part.Part.{Part}

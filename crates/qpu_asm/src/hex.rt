@@ -1,8 +1,10 @@
 //! A line with a hexadecimal word.
-ghost use Rattle.std.specs.Prelude.{◌≡◌, ◌≤◌, ◌<◌, true, length, position};
-ghost use Rattle.std.specs.List.{list_all, AllPass};
-ghost use Rattle.qpu_token.specs.Words.{is_hex_digit, digit_of, value_in};
-ghost use Rattle.qpu_asm.specs.HexLines.{is_space, is_hash, before_comment, spaces_length, behind_spaces, digits_length, number_in, hex_in, hex_line};
+ghost use Rattle.std.specs.Prelude.{◌≡◌, ◌≤◌, length};
+ghost use Rattle.std.specs.List.{list_all};
+ghost use Rattle.qpu_text.specs.Numbers.{hex_length};
+ghost use Rattle.qpu_asm.specs.HexLines.{is_space, spaces_length, behind_spaces, number_in, hex_in, hex_line};
+
+use qpu_text::{HEXADECIMAL, before_comment, hex_length, is_blank, is_lf, value_within};
 
 /// Digits of the longest number.
 const MOST_DIGITS: usize = 16;
@@ -18,47 +20,11 @@ pub(crate) enum HexLine {
     Invalid,
 }
 
-/// A space, a tab or a carriage return.
+/// A space, a tab, or what a line may end with.
 fn is_space(byte: u8) -> bool
     ensures { result ≡ is_space byte }
 {
-    matches!(byte, b' ' | b'\t' | b'\r')
-}
-
-/// A hexadecimal digit, in either case.
-fn is_hex_digit(byte: u8) -> bool
-    ensures { result ≡ is_hex_digit byte }
-{
-    matches!(byte, b'0'..=b'9' | b'a'..=b'f' | b'A'..=b'F')
-}
-
-/// The value of a hexadecimal digit.
-fn digit_of(byte: u8) -> u8
-    requires { is_hex_digit byte ≡ true }
-    ensures value { result ≡ digit_of byte }
-    ensures small { result < 16 }
-{
-    match byte {
-        b'0'..=b'9' => byte - b'0',
-        b'a'..=b'f' => byte - b'a' + 10,
-        _ => byte.saturating_sub(b'A' - 10),
-    }
-}
-
-fn hash_in(line: &[u8]) -> Option<usize>
-    ensures { result ≡ position is_hash line.now }
-{
-    line.iter().position(|byte| *byte == b'#')
-}
-
-/// What stands before the first `#`.
-fn before_comment(line: &[u8]) -> &[u8]
-    ensures { result.now ≡ before_comment line.now }
-{
-    match hash_in(line) {
-        None => line,
-        Some(at) => &line[..at],
-    }
+    is_blank(byte) || is_lf(byte) || byte == b'\r'
 }
 
 /// How many blanks stand at the front.
@@ -76,43 +42,25 @@ fn behind_spaces(line: &[u8]) -> &[u8]
     &line[spaces_length(line)..]
 }
 
-/// How many digits stand at the front.
-fn digits_length(rest: &[u8]) -> usize
-    ensures value { result ≡ digits_length rest.now }
-    ensures inside { result ≤ length rest.now }
-{
-    rest.iter().take_while(|byte| is_hex_digit(**byte)).count()
-}
-
 fn all_spaces(bytes: &[u8]) -> bool
     ensures { result ≡ list_all is_space bytes.now }
 {
     bytes.iter().all(|byte| is_space(*byte))
 }
 
-/// The number that digits write.
-fn value_of(digits: &[u8]) -> u64
-    requires few { length digits.now ≤ 16 }
-    requires digits { AllPass is_hex_digit digits.now }
-    ensures { result ≡ value_in 16 digits.now }
-{
-    let mut value: u64 = 0;
-    for digit in digits {
-        value = value * 16 + u64::from(digit_of(*digit));
-    }
-    value
-}
-
 /// The number behind `0x`.
-#[tactic(auto, unfolding(crate::specs::HexLines::number_in), using(crate::proofs::HexLemmas::front_passes))]
+#[tactic(auto, unfolding(crate::specs::HexLines::number_in))]
 fn number_in(rest: &[u8]) -> HexLine
-    ensures { result ≡ number_in (digits_length rest.now) rest.now }
+    ensures { result ≡ number_in (hex_length rest.now) rest.now }
 {
-    let digits = digits_length(rest);
+    let digits = hex_length(rest);
     if digits == 0 || digits > MOST_DIGITS || !all_spaces(&rest[digits..]) {
         return HexLine::Invalid;
     }
-    HexLine::Number(value_of(&rest[..digits]))
+    match value_within(u64::MAX, HEXADECIMAL, &rest[..digits]) {
+        None => HexLine::Invalid,
+        Some(number) => HexLine::Number(number),
+    }
 }
 
 /// What stands in a line behind its first blanks.

@@ -1,31 +1,15 @@
 //! The words of a text that has one in a line.
-ghost use Rattle.std.specs.Prelude.{◌≡◌, ◌<◌, ◌≤◌, ◌+◌, ◌∷◌, ◌++◌, [], length, position, IfOk, IfErr, IfSome, MatchOption, OnOk};
+ghost use Rattle.std.specs.Prelude.{◌≡◌, ◌≤◌, ◌∷◌, ◌++◌, [], length, IfOk, IfErr, OnOk};
 ghost use Rattle.qpu_asm.specs.Answers.{Leads, StopsBy};
 ghost use Rattle.qpu_word.specs.Words.{numbers_of};
-ghost use Rattle.qpu_asm.specs.HexLines.{is_line_feed, hex_lines, hex_line, with_hex, hex_words, AreHexWords, IsHexFault};
+ghost use Rattle.qpu_asm.specs.HexLines.{hex_line, with_hex, hex_words, AreHexWords, IsHexFault};
 
 use crate::hex::{HexLine, hex_line};
 use crate::stop::Stop;
+use qpu_text::first_line;
 use qpu_token::{AsmFault, AsmKind, MOST_BYTES};
 use qpu_word::Word;
 use std::alloc::{AllocError, Global};
-
-fn line_feed_in(text: &[u8]) -> Option<usize>
-    ensures { result ≡ position is_line_feed text.now }
-{
-    text.iter().position(|byte| *byte == b'\n')
-}
-
-/// What stands before the first line feed, and what stands behind it; none where there is no line feed.
-fn first_line(text: &[u8]) -> Option<(&[u8], &[u8])>
-    ensures cases { MatchOption result (hex_lines text.now ≡ text.now ∷ []) (λ r. hex_lines text.now ≡ r.0.now ∷ hex_lines r.1.now) }
-    ensures shorter { IfSome result (λ r. length r.1.now < length text.now) }
-{
-    match line_feed_in(text) {
-        None => None,
-        Some(at) => Some((&text[..at], &text[at + 1..])),
-    }
-}
 
 /// Puts a word behind the others.
 #[tactic(auto, unfolding(qpu_word::specs::Words::numbers_of))]
@@ -53,7 +37,7 @@ fn put_line(words: &mut Vec<Word>, number: u32, line: &[u8]) -> Result<(), Stop>
 
 /// The words of the lines of a text.
 #[tactic(auto, unfolding(crate::specs::HexLines::hex_words, qpu_word::specs::Words::numbers_of))]
-fn read_words(alloc: Global, text: &[u8]) -> Result<Vec<Word>, Stop>
+fn read_words(alloc: Global, text: &str) -> Result<Vec<Word>, Stop>
     requires { length text.now ≤ MOST_BYTES }
     ensures ok { IfOk result (λ words. AreHexWords text.now words.items) }
     ensures err { IfErr result (λ stop. StopsBy (hex_words text.now) stop) }
@@ -61,19 +45,13 @@ fn read_words(alloc: Global, text: &[u8]) -> Result<Vec<Word>, Stop>
     let mut words = Vec::new(alloc);
     let mut number = 1;
     let mut rest = text;
-    loop {
-        match first_line(rest) {
-            None => {
-                put_line(&mut words, number, rest)?;
-                return Ok(words);
-            }
-            Some((line, behind)) => {
-                put_line(&mut words, number, line)?;
-                rest = behind;
-                number += 1;
-            }
-        }
+    while !rest.is_empty() {
+        let line = first_line(rest);
+        put_line(&mut words, number, line.whole.as_bytes())?;
+        rest = line.rest;
+        number += 1;
     }
+    Ok(words)
 }
 
 /// The words of a text of at most `MOST_BYTES` bytes, in order, of which each line has one or none. A
@@ -85,7 +63,7 @@ pub fn words_of(alloc: Global, text: &str) -> Result<Vec<Word>, AsmFault>
     ensures ok { IfOk result (λ words. AreHexWords text.now words.items) }
     ensures err { IfErr result (λ fault. IsHexFault text.now fault) }
 {
-    match read_words(alloc, text.as_bytes()) {
+    match read_words(alloc, text) {
         Ok(words) => Ok(words),
         Err(stop) => Err(stop.fault()),
     }

@@ -4,7 +4,8 @@ use Rattle.std.proofs.Common.{◌≡◌, ℕ, ◌^◌, ◌<◌, Bool, true, fals
 use Rattle.std.specs.Prelude.{decimal, codes, flat_map, if◌then◌else◌}
 use Rattle.std.proofs.lemmas.List.{map-append}
 use Rattle.std.proofs.lemmas.List.Concat.{flat_map-append}
-use Rattle.qpu_token.specs.Words.{is_letter, is_name_byte, is_run, number_value}
+use Rattle.qpu_text.specs.Bytes.{is_letter, is_name_byte}
+use Rattle.qpu_text.specs.Numbers.{is_run, number_value}
 use Rattle.qpu_token.specs.Tokens.{after_text, bound}
 use Rattle.qpu_token.specs.Written.{Item, Name, Number as NumberItem, Sign, Space as SpaceItem, item_text, items_text, Told, item_told, items_told, Ends, Stage, CanStand}
 use Rattle.qpu_token.proofs.WrittenLaw.{small_fits}

@@ -4,7 +4,7 @@ use Rattle.std.specs.Prelude.{All, codes}
 use Rattle.std.proofs.lemmas.Simd.{map-map}
 use Rattle.qpu_token.specs.declared.token.Token.{Token}
 use Rattle.qpu_token.specs.declared.fault.AsmFault.{AsmFault}
-use Rattle.qpu_token.specs.Words.{number_value}
+use Rattle.qpu_text.specs.Numbers.{number_value}
 use Rattle.qpu_token.specs.Tokens.{text_of, after_text}
 use Rattle.qpu_token.specs.Written.{Item, Name, Number as NumberItem, Sign, Space as SpaceItem, LineFeed, items_text, items_told, Stage, at_first, CanStand, EndsLine, HasTokens}
 use Rattle.qpu_token.specs.OneAnswer.{IsAnswer}

@@ -5,7 +5,8 @@ use Rattle.std.specs.List.{list_all}
 use Rattle.std.proofs.lemmas.Bool.Decides.{nat_tests}
 use Rattle.std.proofs.lemmas.List.Elements.{All-contains}
 use Rattle.std.proofs.lemmas.List.Sums.{AllPass-from_list_all}
-use Rattle.qpu_token.specs.Words.{is_letter, is_name_byte, is_run}
+use Rattle.qpu_text.specs.Bytes.{is_letter, is_name_byte}
+use Rattle.qpu_text.specs.Numbers.{is_run}
 use Rattle.qpu_word.specs.declared.code.TheConstants.{ROWS}
 use Rattle.qpu_word.specs.Names.{two_digits, row_name, read_name, write_name}
 use Rattle.qpu_line.specs.declared.name.Name.{Name}

@@ -7,7 +7,8 @@ use Rattle.std.proofs.Math.Nat.{pow-suc}
 use Rattle.std.proofs.lemmas.Fmt.{decimal_by_steps}
 use Rattle.std.proofs.lemmas.List.Sums.{fold-append}
 use Rattle.std.proofs.lemmas.List.Folds.{list_all-append}
-use Rattle.qpu_token.specs.Words.{is_digit, is_hex_digit, is_run, is_hexadecimal, digit_of, value_in, number_value}
+use Rattle.qpu_text.specs.Bytes.{is_digit, is_hex_digit}
+use Rattle.qpu_text.specs.Numbers.{is_run, is_hexadecimal, digit_of, value_in, number_value}
 use Rattle.qpu_text.specs.Digits.{hex_digit, hex_digits}
 use Rattle.qpu_text.proofs.DigitLemmas.{digits_long, digits_pass}
 

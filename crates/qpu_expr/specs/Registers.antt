@@ -2,7 +2,7 @@
 -- register as destination or operand. A `-` is none of them.
 use Rattle.std.specs.Prelude.{ℕ, ◌==◌, ◌&&◌, ◌||◌, Bool, false, nat_eq, List, [], ◌∷◌, codes}
 use Rattle.std.specs.Cmp.Lexicographic.{pointwise}
-use Rattle.qpu_token.specs.Words.{byte_between, is_digit}
+use Rattle.qpu_text.specs.Bytes.{byte_between, is_digit}
 
 -- digits of 0 to 31, with no leading zero
 abbrev pub is_row_number : List ℕ → Bool

@@ -10,7 +10,8 @@ use Rattle.std.proofs.lemmas.List.Elements.{All-contains}
 use Rattle.std.proofs.lemmas.List.Sums.{AllPass-from_list_all}
 use Rattle.std.proofs.lemmas.Str.{IsAscii-append, IsUtf8-from_ascii}
 use Rattle.std.proofs.lemmas.Str.Ascii.{IsAscii-nil}
-use Rattle.qpu_token.specs.Words.{is_name_byte, is_run}
+use Rattle.qpu_text.specs.Bytes.{is_name_byte}
+use Rattle.qpu_text.specs.Numbers.{is_run}
 use Rattle.qpu_text.specs.Digits.{hex_digit, hex_digits}
 use Rattle.qpu_text.proofs.DigitLemmas.{digits_long, digits_pass}
 use Rattle.qpu_word.specs.declared.code.TheConstants.{ROWS}

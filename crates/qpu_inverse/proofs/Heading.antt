@@ -1,5 +1,5 @@
 -- What a line begins with, as the expansion reads it: an instruction, or `.word`, which is left as it is.
-use Rattle.std.proofs.Common.{◌≡◌, ℕ, Bool, true, false, List, [], ◌∷◌, Option, Some, None, refl, ap, subst, sym, ◌∙◌, arith}
+use Rattle.std.proofs.Common.{◌≡◌, ℕ, Bool, true, false, List, [], ◌∷◌, Option, Some, None, refl, ap, subst, sym, arith}
 use Rattle.std.specs.Prelude.{nat_eq, codes}
 use Rattle.std.specs.Cmp.Lexicographic.{pointwise}
 use Rattle.std.proofs.lemmas.Bool.Decides.{nat_tests}
@@ -14,7 +14,7 @@ use Rattle.qpu_line.specs.declared.name.Name.TheVariants as name
 use Rattle.qpu_line.specs.declared.symbol.Symbol.TheVariants as symbol
 use Rattle.qpu_line.specs.declared.name.Register.{Register}
 use Rattle.qpu_line.specs.Spellings.{spelling}
-use Rattle.qpu_line.specs.Names.{register_of, found_in, row_or, name_of}
+use Rattle.qpu_line.specs.Names.{found_in, row_or, name_of}
 use Rattle.qpu_dis.specs.Tokens.{name_symbol, symbol_by, symbol_of}
 use Rattle.qpu_inverse.proofs.Readings.{token_of}
 

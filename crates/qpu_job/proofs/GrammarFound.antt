@@ -6,21 +6,22 @@ use Rattle.std.proofs.Math.Seq.{drop-cons}
 use Rattle.std.proofs.lemmas.Bool.{or_parts, eqb-true, and_parts}
 use Rattle.std.proofs.lemmas.Bool.Decides.{nat_tests}
 use Rattle.std.proofs.lemmas.Slice.Eq.{bytes_eq-Decides}
-use Rattle.std.proofs.lemmas.List.{length-drop, take-append-drop, nil_from_length, take_all, take_more}
+use Rattle.std.proofs.lemmas.List.{length-drop, take-append-drop, nil_from_length, take_all}
 use Rattle.std.proofs.lemmas.List.Sums.{passes_at_first}
-use Rattle.qpu_token.specs.Words.{is_blank}
+use Rattle.qpu_text.specs.Bytes.{is_blank, LF, CR, is_lf, is_hash}
 use Rattle.qpu_job.specs.declared.fault.JobFault.{JobFault}
 use Rattle.qpu_job.specs.declared.reason.Reason.{Reason}
-use Rattle.qpu_job.specs.Lines.{LF, CR, is_lf, lines, content}
-use Rattle.qpu_job.specs.Words.{is_hash, is_some_word, before_comment, words_between, line_words}
+use Rattle.qpu_text.specs.Lines.{lines, before_comment}
+use Rattle.qpu_job.specs.Lines.{content}
+use Rattle.qpu_job.specs.Words.{is_some_word, words_between, line_words}
 use Rattle.qpu_job.specs.Shapes.{Shape, shape_of}
 use Rattle.qpu_job.specs.Plan.{Plan, Program}
 use Rattle.qpu_job.specs.Above.{Above, at_first, above_next, with_line, with_program}
 use Rattle.qpu_job.specs.Faults.{first_reason}
 use Rattle.qpu_job.specs.Reading.{is_end, is_limited, and_then, unless_fault, after_shape, after_outside, after_inside, after_line_in, after_line, at_end, read_lines, job_of}
 use Rattle.qpu_job.specs.Grammar.{Lacks, Words, nothing, blank, last, followed, Comment, none, some, Says, ends_in_cr, IsLine, by_lf, by_cr_lf, by_none, Asks, ends, says, tells, closes, ReadsJobsAlone}
-use Rattle.qpu_job.proofs.WordLemmas.{at_first as found_at, none_first, words_first, words_last}
-use Rattle.qpu_job.proofs.LineLemmas.{lines_first, lines_last, lines_none}
+use Rattle.qpu_text.proofs.LineLemmas.{at_first as found_at, none_first, lines_first, lines_last, lines_none, line_ends}
+use Rattle.qpu_job.proofs.WordLemmas.{words_first, words_last}
 use Rattle.qpu_job.proofs.LineKeeps.{by_end, job_end, limited}
 use Rattle.qpu_job.proofs.GrammarLemmas.{content_only}
 
@@ -158,16 +159,9 @@ cut_at text at is =
       body = body_by (take at text) (drop (at + 1) text) (ends_in_cr (take at text)) refl front;
     }
 
-line_at : (text : List ℕ) (at : ℕ) → position is_lf text ≡ Some at → take (at + 1) text ≡ take at text ++ LF ∷ []
-line_at text at is =
-    let below = (found_at is_lf text at is).0 in
-    let place = (found_at is_lf text at is).1 in
-    let byte = lf_only (get_or text at 0) (passes_at is_lf text at is) in
-    take_more text at 0 (omega (arith, below, place)) ∙ ap (λ (b : ℕ). take at text ++ b ∷ []) byte
-
 cut_by : (byte : ℕ) (text line : List ℕ) (more : List (List ℕ)) (place : Option ℕ) → position is_lf (byte ∷ text) ≡ place → lines (byte ∷ text) ≡ line ∷ more → Cut (byte ∷ text) line more
 cut_by byte text line more None is h =
-    let whole : (byte ∷ text) ∷ [] ≡ line ∷ more = sym (lines_last (byte ∷ text) is (grind (arith, nat_tests))) ∙ h in
+    let whole : (byte ∷ text) ∷ [] ≡ line ∷ more = sym (lines_last (byte ∷ text) is (omega arith)) ∙ h in
     let line_is : byte ∷ text ≡ line = cc in
     let more_is : [] ≡ more = cc in
     subst (λ (l : List ℕ). Cut (byte ∷ text) l more) line_is
@@ -181,7 +175,7 @@ cut_by byte text line more (Some at) is h =
     let whole : take (at + 1) (byte ∷ text) ∷ lines (drop (at + 1) (byte ∷ text)) ≡ line ∷ more = sym (lines_first (byte ∷ text) at is) ∙ h in
     let line_is : take (at + 1) (byte ∷ text) ≡ line = cc in
     let more_is : lines (drop (at + 1) (byte ∷ text)) ≡ more = cc in
-    let here : take at (byte ∷ text) ++ LF ∷ [] ≡ line = sym (line_at (byte ∷ text) at is) ∙ line_is in
+    let here : take at (byte ∷ text) ++ LF ∷ [] ≡ line = sym (line_ends (byte ∷ text) at is) ∙ line_is in
     subst (λ (l : List ℕ). Cut (byte ∷ text) l more) here (subst (Cut (byte ∷ text) (take at (byte ∷ text) ++ LF ∷ [])) more_is (cut_at (byte ∷ text) at is))
 
 cut : (text line : List ℕ) (more : List (List ℕ)) → lines text ≡ line ∷ more → Cut text line more
@@ -189,7 +183,7 @@ cut [] line more h = absurd (let e : [] ≡ line ∷ more = sym lines_none ∙ h
 cut (byte ∷ text) line more h = cut_by byte text line more (position is_lf (byte ∷ text)) refl h
 
 nothing_by : (byte : ℕ) (text : List ℕ) (place : Option ℕ) → position is_lf (byte ∷ text) ≡ place → lines (byte ∷ text) ≡ [] → ⊥
-nothing_by byte text None is h = let e : (byte ∷ text) ∷ [] ≡ [] = sym (lines_last (byte ∷ text) is (grind (arith, nat_tests))) ∙ h in cc
+nothing_by byte text None is h = let e : (byte ∷ text) ∷ [] ≡ [] = sym (lines_last (byte ∷ text) is (omega arith)) ∙ h in cc
 nothing_by byte text (Some at) is h = let e : take (at + 1) (byte ∷ text) ∷ lines (drop (at + 1) (byte ∷ text)) ≡ [] = sym (lines_first (byte ∷ text) at is) ∙ h in cc
 
 nothing_left : (text : List ℕ) → lines text ≡ [] → text ≡ []

@@ -6,11 +6,12 @@ use Rattle.std.proofs.lemmas.Bool.{or_parts}
 use Rattle.std.proofs.lemmas.Bool.Decides.{nat_tests}
 use Rattle.std.proofs.lemmas.List.{length-append}
 use Rattle.std.proofs.lemmas.List.Splits.{slice_split-cons_yes, slice_split_none, slice_split_at}
-use Rattle.qpu_token.specs.Words.{is_blank}
-use Rattle.qpu_job.specs.Lines.{LF, CR, is_lf, lines, without_last, content}
-use Rattle.qpu_job.specs.Words.{is_hash, is_some_word, before_comment, words_between, line_words}
+use Rattle.qpu_text.specs.Bytes.{is_blank, LF, CR, is_lf, is_hash}
+use Rattle.qpu_text.specs.Lines.{lines, before_comment}
+use Rattle.qpu_job.specs.Lines.{without_last, content}
+use Rattle.qpu_job.specs.Words.{is_some_word, words_between, line_words}
 use Rattle.qpu_job.specs.Grammar.{Lacks, Words, nothing, blank, last, followed, Comment, none, some, Says, IsLine, by_lf, by_cr_lf, by_none}
-use Rattle.qpu_job.proofs.LineLemmas.{lines_none}
+use Rattle.qpu_text.proofs.LineLemmas.{lines_none}
 use Rattle.qpu_job.proofs.KeptLemmas.{any_push}
 
 -- no byte passes, by place

@@ -4,7 +4,8 @@ use Rattle.std.specs.Prelude.{codes, bytes_eq}
 use Rattle.std.proofs.lemmas.Slice.Eq.{bytes_eq-Decides}
 use Rattle.std.proofs.lemmas.Bool.{false_from_ne_true}
 use Rattle.qpu_job.specs.declared.stage.Stage.TheVariants.{Limited}
-use Rattle.qpu_job.specs.Lines.{lines, content}
+use Rattle.qpu_text.specs.Lines.{lines}
+use Rattle.qpu_job.specs.Lines.{content}
 use Rattle.qpu_job.specs.Words.{line_words}
 use Rattle.qpu_job.specs.Shapes.{Shape, shape_of}
 use Rattle.qpu_job.specs.Plan.{Plan, Program}
@@ -12,7 +13,7 @@ use Rattle.qpu_job.specs.Above.{Above, above_next, with_line, with_program}
 use Rattle.qpu_job.specs.Faults.{first_reason}
 use Rattle.qpu_job.specs.Reading.{is_end, after_shape, after_outside, after_inside, after_line_in, after_line, at_end, read_lines, job_of}
 use Rattle.qpu_job.specs.Grammar.{Asks, ends, says, tells, closes, ReadsEveryJob}
-use Rattle.qpu_job.proofs.LineLemmas.{lines_none}
+use Rattle.qpu_text.proofs.LineLemmas.{lines_none}
 use Rattle.qpu_job.proofs.GrammarLemmas.{line_only, content_only, says_only}
 
 step : (number : ℕ) (above next : Above) (line rest : List ℕ) (plan : Plan) → lines (line ++ rest) ≡ line ∷ lines rest → after_line number above line ≡ Ok next

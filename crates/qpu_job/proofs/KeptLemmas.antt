@@ -20,7 +20,7 @@ use Rattle.qpu_job.specs.Plan.{Plan, Program as ProgramOf}
 use Rattle.qpu_job.specs.Above.{Above, at_first, index_in, values_from}
 use Rattle.qpu_job.specs.Faults.{stands, has_wrong_size, is_too_much, is_twice, has_reason, all_causes, first_reason}
 use Rattle.qpu_job.specs.ReadJob.{differ, names, started_processors, IsProgram, IsStart}
-use Rattle.qpu_job.proofs.WordLemmas.{none_first}
+use Rattle.qpu_text.proofs.LineLemmas.{none_first}
 
 -- a size of memory
 abbrev pub IsSize : ℕ → Type 0

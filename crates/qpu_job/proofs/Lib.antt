@@ -1,5 +1,4 @@
 pub mod WordLemmas
-pub mod LineLemmas
 pub mod CodeLemmas
 pub mod AboveLemmas
 pub mod KeptLemmas

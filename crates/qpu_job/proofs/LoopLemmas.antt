@@ -1,13 +1,16 @@
 -- Reading line after line: what is read before a line and behind it, and how it ends.
-use Rattle.std.proofs.Common.{◌≡◌, ℕ, ◌+◌, ◌<◌, ◌≤◌, List, [], ◌∷◌, length, Option, Some, None, Result, Ok, Err, refl, sym, subst, ◌∙◌}
-use Rattle.std.specs.Prelude.{IfOk, IfErr, Bool, true, false, ◌&&◌, is_none, if◌then◌else◌}
+use Rattle.std.proofs.Common.{◌≡◌, ℕ, ◌+◌, ◌<◌, ◌≤◌, List, ◌∷◌, length, Option, Some, None, Result, Ok, Err, refl, sym, subst, ◌∙◌, arith}
+use Rattle.std.specs.Prelude.{IfOk, IfErr, Bool, true, false, ◌==◌, ◌&&◌, is_none, if◌then◌else◌}
+use Rattle.std.proofs.lemmas.Bool.Decides.{nat_tests}
+use Rattle.std.proofs.lemmas.List.{nil_from_length}
 use Rattle.qpu_job.specs.declared.job.TheConstants.{MOST_TEXT}
 use Rattle.qpu_job.specs.declared.job.Job.{Job}
 use Rattle.qpu_job.specs.declared.fault.JobFault.{JobFault}
 use Rattle.qpu_job.specs.declared.fault.JobFault.TheVariants as fault
 use Rattle.qpu_job.specs.declared.reason.Reason.{Reason}
 use Rattle.qpu_job.specs.declared.reason.Reason.TheVariants as cause
-use Rattle.qpu_job.specs.Lines.{lines, content}
+use Rattle.qpu_text.specs.Lines.{lines}
+use Rattle.qpu_job.specs.Lines.{content}
 use Rattle.qpu_job.specs.Words.{line_words}
 use Rattle.qpu_job.specs.Shapes.{Shape, shape_of}
 use Rattle.qpu_job.specs.Plan.{Program, plan_of}
@@ -15,6 +18,7 @@ use Rattle.qpu_job.specs.Above.{Above, at_first, with_line, with_program}
 use Rattle.qpu_job.specs.Faults.{first_reason, fault_at}
 use Rattle.qpu_job.specs.Reading.{is_end, is_limited, unless_fault, after_shape, after_outside, after_inside, after_line_in, after_line, at_end, read_lines, job_of, Fails, GivesJob, IsReadFault}
 use Rattle.qpu_job.specs.ReadJob.{IsReadJob}
+use Rattle.qpu_text.proofs.LineLemmas.{lines_none}
 use Rattle.qpu_job.proofs.KeptLemmas.{IsAbove, begins}
 use Rattle.qpu_job.proofs.LineKeeps.{job_end, line_keeps, end_keeps}
 
@@ -61,13 +65,16 @@ read_fails text rest line behind number above f r split h =
 
 -- the end of the text
 
-pub read_ends : (text rest : List ℕ) (number : ℕ) (above : Above) → IsRead text rest number above → lines rest ≡ [] → at_end number above ≡ job_of text
+pub some_bytes : (text : List ℕ) → (length text == 0) ≡ false → 0 < length text
+some_bytes text h = grind (arith, nat_tests)
+
+read_ends : (text rest : List ℕ) (number : ℕ) (above : Above) → IsRead text rest number above → length rest ≡ 0 → at_end number above ≡ job_of text
 unfolding read_lines
 read_ends text rest number above r none =
-    let here : read_lines number above (lines rest) ≡ at_end number above = rw none refl in
+    let here : read_lines number above (lines rest) ≡ at_end number above = rw (nil_from_length rest none, lines_none) refl in
     sym here ∙ r.read
 
-pub gives_end : (text rest : List ℕ) (number : ℕ) (above : Above) (result : Result Job JobFault) → IsRead text rest number above → lines rest ≡ []
+pub gives_end : (text rest : List ℕ) (number : ℕ) (above : Above) (result : Result Job JobFault) → IsRead text rest number above → length rest ≡ 0
     → GivesJob plan_of result (at_end number above) → GivesJob plan_of result (job_of text)
 gives_end text rest number above result r none h = subst (GivesJob plan_of result) (read_ends text rest number above r none) h
 

@@ -5,7 +5,8 @@ use Rattle.std.specs.List.{onto_first}
 use Rattle.qpu_hazard.proofs.CompleteLemmas.{clean_from_none}
 use Rattle.qpu_machine.specs.Opening.{MayOpen}
 use Rattle.qpu_job.specs.declared.fault.JobFault.{JobFault}
-use Rattle.qpu_job.specs.Lines.{LF, is_lf, lines}
+use Rattle.qpu_text.specs.Bytes.{LF, is_lf}
+use Rattle.qpu_text.specs.Lines.{lines}
 use Rattle.qpu_job.specs.Plan.{Plan}
 use Rattle.qpu_job.specs.Above.{Above, at_first}
 use Rattle.qpu_job.specs.Reading.{after_line, and_then, read_lines, job_of}

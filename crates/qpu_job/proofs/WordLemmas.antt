@@ -1,7 +1,7 @@
 -- The words of a text, blank by blank, and the numbers that words write, word by word.
-use Rattle.std.proofs.Common.{◌≡◌, ℕ, zero, suc, ◌+◌, ◌<◌, ◌≤◌, Bool, true, false, List, [], ◌∷◌, ◌++◌, length, take, drop, get_or, Option, Some, None, All, refl, ap, sym, ◌∙◌, append_assoc, append-nil, add-one, arith}
+use Rattle.std.proofs.Common.{◌≡◌, ℕ, zero, suc, ◌+◌, ◌<◌, ◌≤◌, true, false, List, [], ◌∷◌, ◌++◌, length, take, drop, get_or, Option, Some, None, All, refl, ap, sym, ◌∙◌, append_assoc, append-nil, add-one, arith}
 use Rattle.std.specs.Prelude.{position, filter, option_map}
-use Rattle.std.specs.List.{position_or_len, slice_split, list_all}
+use Rattle.std.specs.List.{slice_split, list_all}
 use Rattle.std.specs.Borrow.{Bor}
 use Rattle.std.proofs.Math.Seq.{drop-cons}
 use Rattle.std.proofs.lemmas.Bool.{and_parts}
@@ -10,14 +10,9 @@ use Rattle.std.proofs.lemmas.List.{drop_all}
 use Rattle.std.proofs.lemmas.List.Elements.{filter-append}
 use Rattle.std.proofs.lemmas.List.Splits.{slice_split_first, slice_split_none}
 use Rattle.std.proofs.lemmas.List.Sums.{fails_before_first}
-use Rattle.qpu_token.specs.Words.{is_blank, is_name_byte}
+use Rattle.qpu_text.specs.Bytes.{is_blank, is_name_byte}
+use Rattle.qpu_text.proofs.LineLemmas.{at_first, none_first}
 use Rattle.qpu_job.specs.Words.{is_some_word, words_between, number_of, line_numbers, texts_of}
-
-pub at_first : {X : Type 0} (p : X → Bool) (xs : List X) (i : ℕ) → position p xs ≡ Some i → (position_or_len p xs < length xs) × (position_or_len p xs ≡ i)
-at_first p xs i h = (grind (arith, nat_tests), grind (arith, nat_tests))
-
-pub none_first : {X : Type 0} (p : X → Bool) (xs : List X) → position p xs ≡ None → length xs ≤ position_or_len p xs
-none_first p xs h = grind (arith, nat_tests)
 
 -- what stands before the first blank is a word unless it is empty, and the others stand behind it
 pub words_first : (text : List ℕ) (at : ℕ) → position is_blank text ≡ Some at → words_between text ≡ filter is_some_word (take at text ∷ []) ++ words_between (drop (at + 1) text)

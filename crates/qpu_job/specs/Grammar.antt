@@ -2,10 +2,8 @@
 -- and a line end. How a text is cut isn't told here. This project's own.
 use Rattle.std.specs.Prelude.{◌≡◌, ◌≢◌, ℕ, ◌+◌, ◌-◌, ◌<◌, ◌==◌, Bool, true, false, List, [], ◌∷◌, ◌++◌, length, slice_index, codes, Some, None, Ok}
 use Rattle.std.specs.List.{list_any}
-use Rattle.qpu_token.specs.Words.{is_blank}
+use Rattle.qpu_text.specs.Bytes.{is_blank, LF, CR, is_lf, is_hash}
 use Rattle.qpu_job.specs.declared.stage.Stage.TheVariants.{Limited}
-use Rattle.qpu_job.specs.Lines.{LF, CR, is_lf}
-use Rattle.qpu_job.specs.Words.{is_hash}
 use Rattle.qpu_job.specs.Shapes.{Shape, shape_of}
 use Rattle.qpu_job.specs.Plan.{Plan, Program}
 use Rattle.qpu_job.specs.Above.{Above, at_first, above_next, with_line, with_program}

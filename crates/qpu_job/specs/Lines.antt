@@ -1,21 +1,6 @@
--- The lines of a text. This project's own.
-use Rattle.std.specs.Prelude.{ℕ, ◌-◌, ◌==◌, Bool, List, [], ◌∷◌, length, take, slice_index, if◌then◌else◌}
-use Rattle.std.specs.List.{onto_first}
-
--- line feed, and carriage return
-abbrev pub LF : ℕ
-LF = 10
-
-abbrev pub CR : ℕ
-CR = 13
-
-abbrev pub is_lf : ℕ → Bool
-is_lf byte = byte == LF
-
--- the lines, each with its line feed; what stands behind the last line feed is a line unless it is empty
-unfoldable pub lines : List ℕ → List (List ℕ)
-lines [] = []
-lines (byte ∷ text) = if is_lf byte then (LF ∷ []) ∷ lines text else onto_first byte (lines text)
+-- What stands in a line. This project's own.
+use Rattle.std.specs.Prelude.{ℕ, ◌-◌, ◌==◌, List, length, take, slice_index, if◌then◌else◌}
+use Rattle.qpu_text.specs.Bytes.{LF, CR}
 
 -- a text without its last byte, where that is this one
 abbrev pub without_last : ℕ → List ℕ → List ℕ

@@ -6,7 +6,8 @@ use Rattle.qpu_job.specs.declared.reason.Reason.{Reason}
 use Rattle.qpu_job.specs.declared.stage.Stage.{Stage}
 use Rattle.qpu_job.specs.declared.stage.Stage.TheVariants.{Nothing, Opened, Sized, Limited}
 use Rattle.qpu_job.specs.Plan.{Plan, Program}
-use Rattle.qpu_job.specs.Lines.{lines, content}
+use Rattle.qpu_text.specs.Lines.{lines}
+use Rattle.qpu_job.specs.Lines.{content}
 use Rattle.qpu_job.specs.Words.{line_words}
 use Rattle.qpu_job.specs.Shapes.{Shape, shape_of}
 use Rattle.qpu_job.specs.Above.{Above, at_first, above_next, with_line, with_program}

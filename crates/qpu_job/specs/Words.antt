@@ -1,17 +1,11 @@
 -- The words of a line, and those that are numbers and names. This project's own.
-use Rattle.std.specs.Prelude.{ℕ, ◌^◌, ◌==◌, ◌&&◌, ◌||◌, Bool, nat_lt, nat_le, List, [], ◌∷◌, length, map, filter, Option, Some, None, option_map, option_and_then, if◌then◌else◌}
-use Rattle.std.specs.List.{list_all, before_first, slice_split}
+use Rattle.std.specs.Prelude.{ℕ, ◌-◌, ◌^◌, ◌&&◌, Bool, nat_lt, nat_le, List, [], ◌∷◌, length, map, filter, Option, Some, None, option_map, option_and_then, if◌then◌else◌}
+use Rattle.std.specs.List.{list_all, slice_split}
 use Rattle.std.specs.Borrow.{Bor}
-use Rattle.qpu_token.specs.Words.{is_blank, is_digit, is_run, is_hexadecimal, is_name_byte, number_value}
+use Rattle.qpu_text.specs.Bytes.{is_blank, is_name_byte}
+use Rattle.qpu_text.specs.Numbers.{is_number, number_within}
+use Rattle.qpu_text.specs.Lines.{before_comment}
 use Rattle.qpu_job.specs.declared.job.TheConstants.{MOST_NAME}
-
--- a `#`
-abbrev pub is_hash : ℕ → Bool
-is_hash byte = byte == 35
-
--- a line without its comment: what stands before the first `#`
-abbrev pub before_comment : List ℕ → List ℕ
-before_comment line = before_first is_hash line
 
 abbrev pub is_some_word : List ℕ → Bool
 is_some_word word = nat_lt 0 (length word)
@@ -24,14 +18,9 @@ words_between text = filter is_some_word (slice_split is_blank text)
 abbrev pub line_words : List ℕ → List (List ℕ)
 line_words line = words_between (before_comment line)
 
--- decimal digits, or `0x` and hexadecimal digits, at least one
-abbrev pub is_number : List ℕ → Bool
-is_number word = is_run is_digit is_digit word || is_hexadecimal word
-
 -- the number that a word writes, below 2^32
 unfoldable pub number_of : List ℕ → Option ℕ
-number_of word =
-    if is_number word && nat_lt (number_value word) (2 ^ 32) then Some (number_value word) else None
+number_of word = if is_number word then number_within (2 ^ 32 - 1) word else None
 
 -- the numbers that words write
 unfoldable pub line_numbers : List (List ℕ) → Option (List ℕ)

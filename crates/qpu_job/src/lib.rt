@@ -9,7 +9,6 @@
 #![tactic(auto)]
 
 mod above;
-mod bytes;
 mod checking;
 mod code;
 mod fault;

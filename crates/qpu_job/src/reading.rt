@@ -10,10 +10,11 @@ ghost use Rattle.qpu_job.specs.Reading.{is_end, after_shape, after_outside, afte
 use crate::above::Above;
 use crate::fault::JobFault;
 use crate::job::{Job, MOST_PROGRAMS, MOST_TEXT, ProgramText};
-use crate::line::{content, first_line};
+use crate::line::content;
 use crate::shape::{Shape, shape_of};
 use crate::stage::Stage;
 use crate::word::words_of;
+use qpu_text::first_line;
 use qpu_word::NoMemory;
 use std::alloc::Global;
 
@@ -29,16 +30,13 @@ pub fn read_job(alloc: Global, text: &str) -> Result<Job, JobFault>
     let mut above = Above::at_first(alloc);
     let mut rest = text;
     let mut number = 1;
-    loop {
-        match first_line(rest) {
-            None => return above.at_end(number),
-            Some((line, behind)) => {
-                above.after_line(alloc, number, line)?;
-                rest = behind;
-                number += 1;
-            }
-        }
+    while !rest.is_empty() {
+        let line = first_line(rest);
+        above.after_line(alloc, number, line.whole)?;
+        rest = line.rest;
+        number += 1;
     }
+    above.at_end(number)
 }
 
 impl Above {

@@ -2,7 +2,7 @@
 
 ghost use Rattle.std.specs.Prelude.{◌≡◌, ◌∷◌, true, IfOk, option_map, option_copied, bytes_eq};
 ghost use Rattle.std.specs.List.{list_all};
-ghost use Rattle.qpu_token.specs.Words.{is_name_byte};
+ghost use Rattle.qpu_text.specs.Bytes.{is_name_byte};
 ghost use Rattle.qpu_job.specs.Words.{texts_of, name_of, line_numbers};
 ghost use Rattle.qpu_job.specs.Shapes.{said, Data, opening_shape, memory_shape, limit_shape, data_shape, program_shape, start_shape, shape_of};
 

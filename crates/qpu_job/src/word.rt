@@ -2,11 +2,11 @@
 
 ghost use Rattle.std.specs.Prelude.{◌≡◌, ◌∷◌, [], ◌++◌, ◌<◌, length, IfOk, IfSome, OnOk, MatchOption, position, filter};
 ghost use Rattle.std.specs.List.{list_all};
-ghost use Rattle.qpu_token.specs.Words.{is_blank, is_name_byte};
-ghost use Rattle.qpu_job.specs.Words.{is_hash, is_some_word, before_comment, words_between, line_words, is_name, texts_of};
+ghost use Rattle.qpu_text.specs.Bytes.{is_blank, is_name_byte};
+ghost use Rattle.qpu_job.specs.Words.{is_some_word, words_between, line_words, is_name, texts_of};
 
-use crate::bytes::{is_blank, is_name_byte};
 use crate::job::MOST_NAME;
+use qpu_text::{before_comment, is_blank, is_name_byte};
 use qpu_word::NoMemory;
 use std::alloc::Global;
 
@@ -28,22 +28,6 @@ fn all_name_bytes(bytes: &[u8]) -> bool
     ensures { result ≡ list_all is_name_byte bytes.now }
 {
     bytes.iter().all(|byte| is_name_byte(*byte))
-}
-
-/// What stands before the first `#`.
-fn before_comment(line: &[u8]) -> &[u8]
-    ensures { result.now ≡ before_comment line.now }
-{
-    match hash_in(line) {
-        None => line,
-        Some(at) => &line[..at],
-    }
-}
-
-fn hash_in(line: &[u8]) -> Option<usize>
-    ensures { result ≡ position is_hash line.now }
-{
-    line.iter().position(|byte| *byte == b'#')
 }
 
 fn words_between(alloc: Global, text: &[u8]) -> Result<Vec<&[u8]>, NoMemory>

@@ -5,7 +5,7 @@ use Rattle.qpu_machine.specs.declared.start.Start.{Start}
 use Rattle.qpu_machine.specs.Machine.{MachineState, machine_of}
 use Rattle.qpu_machine.specs.Opening.{MayOpen}
 use Rattle.qpu_machine.specs.Schedule.{After}
-use Rattle.qpu_record.specs.Lines.{line_feeds}
+use Rattle.qpu_text.specs.Lines.{line_feeds}
 use Rattle.qpu_record.specs.Reading.{record_of}
 use Rattle.qpu_record.specs.Record.{merged, record_text}
 

@@ -11,11 +11,13 @@ use Rattle.qpu_machine.specs.declared.journal.Run.{Run}
 use Rattle.qpu_record.specs.declared.fault.RecordFault.{RecordFault}
 use Rattle.qpu_record.specs.declared.fault.RecordFault.TheVariants as fault
 use Rattle.qpu_record.specs.declared.item.TheConstants.{MOST_COUNT, MOST_PROCESSOR, MOST_UNIT}
-use Rattle.qpu_record.specs.Lines.{SPACE, cut_at}
-use Rattle.qpu_record.specs.Numbers.{ZERO, is_digit, is_number, value_of, number_of}
+use Rattle.qpu_text.specs.Bytes.{SPACE, is_digit}
+use Rattle.qpu_text.specs.Lines.{cut_at}
+use Rattle.qpu_text.specs.Numbers.{value_in}
+use Rattle.qpu_record.specs.Numbers.{ZERO, is_number, number_of}
 use Rattle.qpu_record.specs.Items.{first_number, two_numbers, three_numbers, lettered, item_of, item_at, is_actor, is_in_range, judged, run_of}
 use Rattle.qpu_record.specs.Grammar.{IsActor, IsItem}
-use Rattle.qpu_record.proofs.LineLemmas.{is_mark}
+use Rattle.qpu_text.proofs.LineLemmas.{is_mark}
 use Rattle.qpu_record.proofs.GrammarLemmas.{AreDigits, own, item_line}
 
 -- a text that was cut
@@ -68,11 +70,11 @@ numeral : (digits : List ℕ) → is_number digits ≡ true → IsNumeral digits
 numeral [] e = absurd (cc)
 numeral (first ∷ others) e = naught_by first others (first == ZERO) refl e
 
-number_by : (most : ℕ) (digits : List ℕ) (n : ℕ) (is : Bool) → is_number digits ≡ is → (if is then Some (min (value_of digits) (most + 1)) else None) ≡ Some n
+number_by : (most : ℕ) (digits : List ℕ) (n : ℕ) (is : Bool) → is_number digits ≡ is → (if is then Some (min (value_in 10 digits) (most + 1)) else None) ≡ Some n
     → n ≤ most → n < 2 ^ 64 → digits ≡ decimal n
 number_by most digits n true is e within fits =
-    let least : min (value_of digits) (most + 1) ≡ n = cc in
-    let value : value_of digits ≡ n = omega (arith, least, within) in
+    let least : min (value_in 10 digits) (most + 1) ≡ n = cc in
+    let value : value_in 10 digits ≡ n = omega (arith, least, within) in
     let shape = numeral digits is in
     let written = decimal-digits_value own digits shape.all shape.some shape.one (omega (arith, value, fits)) in
     rw value at (sym written)

@@ -10,7 +10,8 @@ use Rattle.qpu_machine.specs.declared.journal.Run.{Run}
 use Rattle.qpu_record.specs.declared.fault.RecordFault.{RecordFault}
 use Rattle.qpu_record.specs.declared.fault.RecordFault.TheVariants as fault
 use Rattle.qpu_record.specs.Record.{item_text, ends_line, missing_line_end}
-use Rattle.qpu_record.specs.Lines.{LF, first_line, is_lf}
+use Rattle.qpu_text.specs.Bytes.{LF, is_lf}
+use Rattle.qpu_text.specs.Lines.{first_line}
 use Rattle.qpu_record.specs.Numbers.{number_of}
 use Rattle.qpu_record.specs.Items.{item_at}
 use Rattle.qpu_record.specs.Heading.{Heading, and_then, or_line, that_fit, line_behind, begins_lf, opening, size_line, job_part, schedule_line, with_schedule, with_job, heading_of}

@@ -1,22 +1,24 @@
 -- Lines, numbers and items, from how they are written to how they are read.
-use Rattle.std.proofs.Common.{◌≡◌, ℕ, zero, suc, ◌+◌, ◌-◌, ◌*◌, ◌^◌, ◌<◌, ◌≤◌, Bool, true, false, List, [], ◌∷◌, ◌++◌, length, min, get_or, Some, Ok, refl, ap, arith, append_assoc, rules}
+use Rattle.std.proofs.Common.{◌≡◌, ℕ, zero, suc, ◌+◌, ◌*◌, ◌^◌, ◌<◌, ◌≤◌, Bool, true, false, List, [], ◌∷◌, ◌++◌, length, min, get_or, Some, Ok, refl, ap, arith, append_assoc, rules}
 use Rattle.std.specs.Prelude.{◌==◌, nat_le, fold, decimal}
 use Rattle.std.specs.List.{list_all, list_any}
 use Rattle.std.proofs.lemmas.Bool.{and_parts, or_parts}
 use Rattle.std.proofs.lemmas.Bool.Decides.{nat_tests}
 use Rattle.std.proofs.lemmas.List.Folds.{list_any-append}
-use Rattle.std.proofs.lemmas.Str.Parse.{IsNumeralModel, numerals_by_fold}
+use Rattle.std.proofs.lemmas.Str.Parse.{IsNumeralModel, FoldsDigits, numerals_by_fold}
 use Rattle.std.proofs.lemmas.Fmt.{digits_decimal, digits_value-decimal, first_decimal, decimal_nonempty, decimal_digit}
 use Rattle.qpu_machine.specs.declared.actor.Actor.{Actor}
 use Rattle.qpu_machine.specs.declared.actor.Actor.TheVariants.{Exec, Load, Store, Fetch}
 use Rattle.qpu_record.specs.declared.item.TheConstants.{MOST_COUNT}
 use Rattle.qpu_record.specs.Record.{item_text}
-use Rattle.qpu_record.specs.Lines.{LF, SPACE, cut_at}
-use Rattle.qpu_record.specs.Numbers.{ZERO, is_digit, is_number, value_of, number_of}
+use Rattle.qpu_text.specs.Bytes.{LF, SPACE, is_digit}
+use Rattle.qpu_text.specs.Lines.{cut_at}
+use Rattle.qpu_text.specs.Numbers.{digit_of, value_in}
+use Rattle.qpu_record.specs.Numbers.{ZERO, is_number, number_of}
 use Rattle.qpu_record.specs.Items.{first_number, two_numbers, three_numbers, lettered, item_of, item_at, is_in_range, run_of}
 use Rattle.qpu_record.specs.Reading.{is_end}
 use Rattle.qpu_record.specs.Grammar.{IsActor}
-use Rattle.qpu_record.proofs.LineLemmas.{is_mark, uncut}
+use Rattle.qpu_text.proofs.LineLemmas.{is_mark, uncut}
 
 -- cut at the first mark
 
@@ -46,10 +48,16 @@ abbrev pub AreDigits : List ℕ → Type 0
 AreDigits digits = list_all is_digit digits ≡ true
 
 abbrev value_after : ℕ → List ℕ → ℕ
-value_after start digits = fold (λ value digit. value * 10 + (digit - ZERO)) start digits
+value_after start digits = fold (λ value digit. value * 10 + digit_of digit) start digits
 
-pub own : IsNumeralModel AreDigits value_of
-own = numerals_by_fold AreDigits (search rules) value_after (search rules)
+folds : FoldsDigits value_after
+folds = record {
+  empty = λ n. refl;
+  more = λ n c cs range. let digit : is_digit c ≡ true = grind (arith, nat_tests) in rw digit refl;
+}
+
+pub own : IsNumeralModel AreDigits (value_in 10)
+own = numerals_by_fold AreDigits (search rules) value_after folds
 
 pub digits_written : (n : ℕ) → n < 2 ^ 64 → AreDigits (decimal n)
 digits_written n fits = digits_decimal own n fits

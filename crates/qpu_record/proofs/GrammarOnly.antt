@@ -12,12 +12,13 @@ use Rattle.qpu_machine.specs.declared.journal.Run.{Run}
 use Rattle.qpu_machine.specs.Journal.{IsMerged, is_same_actor, pushed}
 use Rattle.qpu_machine.proofs.JournalLemmas.{not_of}
 use Rattle.qpu_record.specs.Record.{item_text, ends_line, missing_line_end, merged, runs_text, record_text}
-use Rattle.qpu_record.specs.Lines.{LF, cut_at, is_lf, line_feeds}
+use Rattle.qpu_text.specs.Bytes.{LF, is_lf}
+use Rattle.qpu_text.specs.Lines.{cut_at, line_feeds}
 use Rattle.qpu_record.specs.Heading.{line_behind, opening, size_line, job_part, schedule_line, heading_of}
 use Rattle.qpu_record.specs.Reading.{Parts, schedule_of, record_of}
 use Rattle.qpu_record.specs.Grammar.{IsItem, put, put_together, front_text, IsBehind, nothing, line_end, ReadsEveryRecord, RecordsAreRead}
 use Rattle.qpu_record.proofs.MergedLemmas.{is_merged}
-use Rattle.qpu_record.proofs.LineLemmas.{is_mark}
+use Rattle.qpu_text.proofs.LineLemmas.{is_mark}
 use Rattle.qpu_record.proofs.ReadLemmas.{by_first_line}
 use Rattle.qpu_record.proofs.GrammarLemmas.{Lacks, cut_behind, cut_nowhere, number_lacks, number_read, item_line, item_ends, line_lacks, no_end, item_read}
 

@@ -1,9 +1,9 @@
 -- The first number of an item, by the place of the first space.
 use Rattle.std.proofs.Common.{◌≡◌, ℕ, ◌+◌, List, take, drop, Some, None, refl}
 use Rattle.std.specs.Prelude.{position, option_map}
-use Rattle.qpu_record.specs.Lines.{SPACE}
+use Rattle.qpu_text.specs.Bytes.{SPACE}
 use Rattle.qpu_record.specs.Items.{is_space, one_number, first_number}
-use Rattle.qpu_record.proofs.LineLemmas.{cut_some, cut_none}
+use Rattle.qpu_text.proofs.LineLemmas.{cut_some, cut_none}
 
 pub first_some : (text : List ℕ) (at : ℕ) → position is_space text ≡ Some at → first_number text ≡ option_map (λ number. (number, drop (at + 1) text)) (one_number (take at text))
 unfolding first_number

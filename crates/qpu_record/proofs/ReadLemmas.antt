@@ -11,7 +11,8 @@ use Rattle.qpu_record.specs.declared.fault.RecordFault.{RecordFault}
 use Rattle.qpu_record.specs.declared.fault.RecordFault.TheVariants as fault
 use Rattle.qpu_record.specs.declared.item.TheConstants.{MOST_COUNT}
 use Rattle.qpu_record.specs.declared.parts.TheConstants.{MOST_TEXT}
-use Rattle.qpu_record.specs.Lines.{Cut, with_front, cut_at, first_line, is_lf}
+use Rattle.qpu_text.specs.Bytes.{is_lf}
+use Rattle.qpu_text.specs.Lines.{Cut, with_front, cut_at, first_line}
 use Rattle.qpu_record.specs.Items.{item_at}
 use Rattle.qpu_record.specs.Heading.{and_then}
 use Rattle.qpu_record.specs.Reading.{Schedule, is_end, ended, open_item, schedule_of, Fails}

@@ -8,7 +8,8 @@ use Rattle.qpu_machine.specs.declared.actor.Actor.TheVariants.{Exec, Load, Store
 use Rattle.qpu_machine.specs.declared.journal.Run.{Run}
 use Rattle.qpu_machine.specs.Journal.{pushed}
 use Rattle.qpu_record.specs.declared.item.TheConstants.{MOST_COUNT, MOST_PROCESSOR, MOST_UNIT}
-use Rattle.qpu_record.specs.Lines.{LF, line_feeds}
+use Rattle.qpu_text.specs.Bytes.{LF}
+use Rattle.qpu_text.specs.Lines.{line_feeds}
 use Rattle.qpu_record.specs.Record.{item_text, missing_line_end, merged, record_text}
 use Rattle.qpu_record.specs.Reading.{Parts, record_of}
 

@@ -5,7 +5,8 @@ use Rattle.std.specs.Borrow.{Bor}
 use Rattle.qpu_record.specs.declared.fault.RecordFault.{RecordFault}
 use Rattle.qpu_record.specs.declared.fault.RecordFault.TheVariants as fault
 use Rattle.qpu_record.specs.declared.heading.Heading.{Heading as Told}
-use Rattle.qpu_record.specs.Lines.{LF, first_line, line_feeds}
+use Rattle.qpu_text.specs.Bytes.{LF}
+use Rattle.qpu_text.specs.Lines.{first_line, line_feeds}
 use Rattle.qpu_record.specs.Numbers.{number_of}
 use Rattle.qpu_record.specs.Record.{ends_line}
 

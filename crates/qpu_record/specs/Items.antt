@@ -7,7 +7,8 @@ use Rattle.qpu_machine.specs.declared.journal.Run.{Run}
 use Rattle.qpu_record.specs.declared.fault.RecordFault.{RecordFault}
 use Rattle.qpu_record.specs.declared.fault.RecordFault.TheVariants as fault
 use Rattle.qpu_record.specs.declared.item.TheConstants.{MOST_COUNT, MOST_PROCESSOR, MOST_UNIT}
-use Rattle.qpu_record.specs.Lines.{SPACE, cut_at}
+use Rattle.qpu_text.specs.Bytes.{SPACE}
+use Rattle.qpu_text.specs.Lines.{cut_at}
 use Rattle.qpu_record.specs.Numbers.{number_of}
 
 abbrev pub is_space : ℕ → Bool

@@ -1,6 +1,5 @@
 pub mod Record
 pub mod Apart
-pub mod Lines
 pub mod Numbers
 pub mod Items
 pub mod Heading

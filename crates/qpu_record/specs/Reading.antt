@@ -6,7 +6,7 @@ use Rattle.qpu_record.specs.declared.fault.RecordFault.{RecordFault}
 use Rattle.qpu_record.specs.declared.fault.RecordFault.TheVariants as fault
 use Rattle.qpu_record.specs.declared.parts.RecordParts.{RecordParts}
 use Rattle.qpu_record.specs.declared.reading.Schedule.{Schedule as Told}
-use Rattle.qpu_record.specs.Lines.{is_lf}
+use Rattle.qpu_text.specs.Bytes.{is_lf}
 use Rattle.qpu_record.specs.Items.{item_at}
 use Rattle.qpu_record.specs.Heading.{Heading, heading_of, and_then}
 

@@ -6,9 +6,9 @@ ghost use Rattle.qpu_record.specs.Record.{ends_line};
 ghost use Rattle.qpu_record.specs.Heading.{opening, size_line, sized_told, job_part, after_job, schedule_line, heading_of, told, text_told, seen, begins_lf};
 
 use crate::fault::RecordFault;
-use crate::line::{LINE_FEED, first_line, line_feeds};
 use crate::number::number_of;
 use crate::writing::ends_line;
+use qpu_text::{first_line, is_lf, line_feeds};
 
 /// The line with which a record's job begins.
 const JOB_LINE: u32 = 3;
@@ -124,7 +124,7 @@ fn begins_line_feed(text: &[u8]) -> bool
 {
     match text {
         [] => false,
-        [first, ..] => *first == LINE_FEED,
+        [first, ..] => is_lf(*first),
     }
 }
 

@@ -7,7 +7,6 @@ mod fault;
 mod heading;
 mod item;
 mod laws;
-mod line;
 mod number;
 mod parts;
 mod reading;

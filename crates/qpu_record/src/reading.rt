@@ -7,9 +7,9 @@ ghost use Rattle.qpu_record.specs.Reading.{is_end, schedule_of, schedule_told, r
 use crate::fault::RecordFault;
 use crate::heading::heading_of;
 use crate::item::item_at;
-use crate::line::first_line;
 use crate::parts::{MOST_TEXT, RecordParts};
 use qpu_machine::Journal;
+use qpu_text::first_line;
 use qpu_word::NoMemory;
 use std::alloc::Global;
 

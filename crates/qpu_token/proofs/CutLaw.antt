@@ -5,7 +5,8 @@ use Rattle.std.proofs.lemmas.Bool.Decides.{nat_tests}
 use Rattle.qpu_token.specs.declared.token.Token.{Token}
 use Rattle.qpu_token.specs.declared.piece.Shape.{Shape}
 use Rattle.qpu_token.specs.declared.piece.Shape.TheVariants.{Blank, Comment, Name, Number, Sign, LineEnd}
-use Rattle.qpu_token.specs.Words.{is_letter, is_digit, is_blank, is_sign_byte, is_word}
+use Rattle.qpu_text.specs.Bytes.{is_letter, is_digit, is_blank}
+use Rattle.qpu_token.specs.Words.{is_sign_byte, is_word}
 use Rattle.qpu_token.specs.Tokens.{dotted, Begins, NothingBegins, told, Cut, at_start, on}
 use Rattle.qpu_token.proofs.ReadLemmas.{word_some}
 

@@ -4,7 +4,9 @@ use Rattle.std.specs.Prelude.{◌==◌, nat_eq, codes, if◌then◌else◌}
 use Rattle.std.specs.List.{starts_with}
 use Rattle.std.proofs.lemmas.Bool.Decides.{nat_tests}
 use Rattle.qpu_token.specs.declared.piece.Shape.TheVariants.{Blank, Comment, Name, Number, Sign, LineEnd}
-use Rattle.qpu_token.specs.Words.{is_letter, is_digit, is_name_byte, is_blank, is_sign_byte, is_hexadecimal, is_sign, is_line_end, is_one_blank}
+use Rattle.qpu_text.specs.Bytes.{is_letter, is_digit, is_name_byte, is_blank}
+use Rattle.qpu_text.specs.Numbers.{is_hexadecimal}
+use Rattle.qpu_token.specs.Words.{is_sign_byte, is_sign, is_line_end, is_one_blank}
 use Rattle.qpu_token.specs.Pieces.{comment_length, name_length, number_length, some_piece, short_piece, piece_of}
 use Rattle.qpu_token.specs.Tokens.{Begins, NothingBegins}
 use Rattle.qpu_token.specs.Reading.{PieceHere}

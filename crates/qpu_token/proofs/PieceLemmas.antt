@@ -7,10 +7,13 @@ use Rattle.std.proofs.lemmas.List.{length-take-le}
 use Rattle.std.proofs.lemmas.List.Sums.{prefix_len-le-length}
 use Rattle.std.proofs.lemmas.Bool.Decides.{nat_tests}
 use Rattle.qpu_token.specs.declared.piece.Shape.TheVariants.{Blank, Comment, Name, Number, Sign, LineEnd}
-use Rattle.qpu_token.specs.Words.{is_letter, is_digit, is_hex_digit, is_name_byte, is_blank, is_sign_byte, stays_in_line, is_run, is_hexadecimal, is_sign, is_line_end, is_one_blank, is_word}
-use Rattle.qpu_token.specs.Pieces.{digits_length, hex_length, comment_length, name_length, number_length}
+use Rattle.qpu_text.specs.Bytes.{is_letter, is_digit, is_hex_digit, is_name_byte, is_blank}
+use Rattle.qpu_text.specs.Numbers.{is_run, is_hexadecimal, digits_length, hex_length}
+use Rattle.qpu_token.specs.Words.{is_sign_byte, stays_in_line, is_sign, is_line_end, is_one_blank, is_word}
+use Rattle.qpu_token.specs.Pieces.{comment_length, name_length, number_length}
 use Rattle.qpu_token.specs.Tokens.{Begins}
-use Rattle.qpu_token.proofs.RunLemmas.{all_in_run, none_longer, run_word, run_longest, run_begins}
+use Rattle.qpu_text.proofs.NumberLemmas.{all_in_run}
+use Rattle.qpu_token.proofs.RunLemmas.{none_longer, run_word, run_longest, run_begins}
 
 -- names
 

@@ -9,7 +9,9 @@ use Rattle.std.proofs.lemmas.Bool.Decides.{nat_tests}
 use Rattle.qpu_token.specs.declared.piece.Shape.{Shape}
 use Rattle.qpu_token.specs.declared.piece.Shape.TheVariants.{Blank, Comment, Name, Number, Sign, LineEnd}
 use Rattle.qpu_token.specs.declared.place.Place.{Place}
-use Rattle.qpu_token.specs.Words.{is_letter, is_digit, is_hex_digit, is_name_byte, stays_in_line, is_run, is_hexadecimal, is_sign, is_line_end, is_one_blank, is_word}
+use Rattle.qpu_text.specs.Bytes.{is_letter, is_digit, is_hex_digit, is_name_byte}
+use Rattle.qpu_text.specs.Numbers.{is_run, is_hexadecimal}
+use Rattle.qpu_token.specs.Words.{stays_in_line, is_sign, is_line_end, is_one_blank, is_word}
 use Rattle.qpu_token.specs.Places.{next_place, first_place, place_at}
 use Rattle.qpu_token.specs.Reading.{place_behind}
 

@@ -15,7 +15,8 @@ use Rattle.qpu_token.specs.declared.before.Before.TheVariants.{Other}
 use Rattle.qpu_token.specs.declared.place.Place.{Place}
 use Rattle.qpu_token.specs.declared.here.Here.{Here}
 use Rattle.qpu_token.specs.declared.turn.Turn.TheVariants.{Told, TooLarge}
-use Rattle.qpu_token.specs.Words.{is_word, number_value}
+use Rattle.qpu_text.specs.Numbers.{number_value}
+use Rattle.qpu_token.specs.Words.{is_word}
 use Rattle.qpu_token.specs.Places.{place_at}
 use Rattle.qpu_token.specs.Tokens.{dotted, Begins, NothingBegins, token_at, told, Cut, at_start, on, text_of, after_text, before_of, bound, fits, AllFit}
 use Rattle.qpu_token.specs.Faults.{InLine, IsBadByte, IsLineDone, IsTooLarge}

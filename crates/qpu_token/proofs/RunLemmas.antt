@@ -1,27 +1,20 @@
 -- Runs of bytes that pass a test: how long the longest is.
-use Rattle.std.proofs.Common.{◌≡◌, ℕ, zero, suc, ◌+◌, ◌<◌, ◌≤◌, Bool, true, false, ◌&&◌, List, [], ◌∷◌, length, get_or, take, refl, ap, ◌∙◌, arith, one-add}
+use Rattle.std.proofs.Common.{◌≡◌, ℕ, zero, suc, ◌+◌, ◌<◌, ◌≤◌, Bool, true, false, ◌&&◌, List, ◌∷◌, length, get_or, take, refl, ap, ◌∙◌, arith, one-add}
 use Rattle.std.specs.List.{prefix_len, list_all}
 use Rattle.std.proofs.lemmas.List.{length-take-le, get_or-take}
 use Rattle.std.proofs.lemmas.List.Folds.{list_all_at}
 use Rattle.std.proofs.lemmas.List.Sums.{prefix_len_stops, prefix_len-le-length}
+use Rattle.qpu_text.specs.Numbers.{is_run}
+use Rattle.qpu_text.proofs.NumberLemmas.{all_in_run}
 use Rattle.qpu_token.specs.declared.piece.Shape.{Shape}
-use Rattle.qpu_token.specs.Words.{is_run, is_word}
+use Rattle.qpu_token.specs.Words.{is_word}
 use Rattle.qpu_token.specs.Tokens.{Begins}
-
-all_step : (p : ℕ → Bool) (x : ℕ) (xs : List ℕ) (b : Bool) → p x ≡ b → list_all p (take (prefix_len p xs) xs) ≡ true → list_all p (take (prefix_len p (x ∷ xs)) (x ∷ xs)) ≡ true
-all_step p x xs true e rest = rw (e, one-add, e) rest
-all_step p x xs false e rest = rw e refl
 
 and_false : (b : Bool) → (b && false) ≡ false
 and_false true = refl
 and_false false = refl
 
--- the longest run is one
-pub all_in_run : (p : ℕ → Bool) (xs : List ℕ) → list_all p (take (prefix_len p xs) xs) ≡ true
-all_in_run p [] = refl
-all_in_run p (x ∷ xs) = all_step p x xs (p x) refl (all_in_run p xs)
-
--- and no longer front is
+-- no front that is longer than the longest run is one
 pub none_longer : (p : ℕ → Bool) (xs : List ℕ) (m : ℕ) → prefix_len p xs < m → m ≤ length xs → list_all p (take m xs) ≡ false
 none_longer p xs m past inside =
     let stops : p (get_or xs (prefix_len p xs) 0) ≡ false = prefix_len_stops p xs 0 (omega arith) in

@@ -10,7 +10,8 @@ use Rattle.qpu_token.specs.declared.piece.Shape.TheVariants as shape
 use Rattle.qpu_token.specs.declared.before.Before.{Before}
 use Rattle.qpu_token.specs.declared.before.Before.TheVariants.{Other, Dot, DotWord}
 use Rattle.qpu_token.specs.declared.place.Place.{Place}
-use Rattle.qpu_token.specs.Words.{is_letter, is_digit, is_hex_digit, is_name_byte, is_run, is_hexadecimal, number_value}
+use Rattle.qpu_text.specs.Bytes.{is_letter, is_digit, is_hex_digit, is_name_byte}
+use Rattle.qpu_text.specs.Numbers.{is_run, is_hexadecimal, number_value}
 use Rattle.qpu_token.specs.Places.{next_place, first_place, place_at}
 use Rattle.qpu_token.specs.Tokens.{dotted, Begins, after_text, bound, last_end}
 use Rattle.qpu_token.specs.Written.{Item, Name, Number, Sign, Space, LineFeed, item_text, items_text, Told, items_told, Stage, at_first, CanStand, EndsLine, HasTokens}

@@ -5,8 +5,9 @@ use Rattle.std.specs.List.{prefix_len, list_all}
 use Rattle.std.proofs.lemmas.Bool.Decides.{nat_tests}
 use Rattle.qpu_token.specs.declared.piece.Shape.TheVariants.{Name as NameShape, Number as NumberShape}
 use Rattle.qpu_token.specs.declared.before.Before.{Before}
-use Rattle.qpu_token.specs.Words.{is_letter, is_digit, is_hex_digit, is_name_byte, is_run, is_hexadecimal}
-use Rattle.qpu_token.specs.Pieces.{digits_length, hex_length, number_length}
+use Rattle.qpu_text.specs.Bytes.{is_letter, is_digit, is_hex_digit, is_name_byte}
+use Rattle.qpu_text.specs.Numbers.{is_run, is_hexadecimal, digits_length, hex_length}
+use Rattle.qpu_token.specs.Pieces.{number_length}
 use Rattle.qpu_token.specs.Tokens.{Begins}
 use Rattle.qpu_token.specs.Written.{Item, Name, Number, Sign, Space, LineFeed, items_text, Ends, CanStand}
 use Rattle.qpu_token.proofs.PieceLemmas.{name_begins, number_begins}

@@ -5,16 +5,12 @@ use Rattle.std.specs.List.{prefix_len, starts_with}
 use Rattle.qpu_token.specs.declared.piece.Shape.{Shape}
 use Rattle.qpu_token.specs.declared.piece.Shape.TheVariants.{Blank, Comment, Name, Number, Sign, LineEnd}
 use Rattle.qpu_token.specs.declared.piece.Piece.{Piece}
-use Rattle.qpu_token.specs.Words.{is_letter, is_digit, is_hex_digit, is_name_byte, is_blank, is_sign_byte, stays_in_line}
+use Rattle.qpu_text.specs.Bytes.{is_letter, is_digit, is_name_byte, is_blank}
+use Rattle.qpu_text.specs.Numbers.{digits_length, hex_length}
+use Rattle.qpu_token.specs.Words.{is_sign_byte, stays_in_line}
 
 abbrev pub name_length : List ℕ → ℕ
 name_length rest = prefix_len is_name_byte rest
-
-abbrev pub digits_length : List ℕ → ℕ
-digits_length rest = prefix_len is_digit rest
-
-abbrev pub hex_length : List ℕ → ℕ
-hex_length rest = prefix_len is_hex_digit rest
 
 abbrev pub comment_length : List ℕ → ℕ
 comment_length rest = prefix_len stays_in_line rest

@@ -13,7 +13,7 @@ use Rattle.qpu_token.specs.declared.place.Place.{Place}
 use Rattle.qpu_token.specs.declared.here.Here.{Here}
 use Rattle.qpu_token.specs.declared.turn.Turn.{Turn}
 use Rattle.qpu_token.specs.declared.turn.Turn.TheVariants.{Nothing, Passed, Told, TooLarge}
-use Rattle.qpu_token.specs.Words.{number_value}
+use Rattle.qpu_text.specs.Numbers.{number_value}
 use Rattle.qpu_token.specs.Places.{place_at}
 use Rattle.qpu_token.specs.Tokens.{dotted, Begins, NothingBegins, told, Cut, after_text, before_of, bound, fits, AllFit}
 use Rattle.qpu_token.specs.Faults.{InLine}

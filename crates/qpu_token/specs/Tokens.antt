@@ -9,7 +9,8 @@ use Rattle.qpu_token.specs.declared.piece.Shape.{Shape}
 use Rattle.qpu_token.specs.declared.piece.Shape.TheVariants.{Blank, Comment, Name, Number, Sign, LineEnd}
 use Rattle.qpu_token.specs.declared.before.Before.{Before}
 use Rattle.qpu_token.specs.declared.before.Before.TheVariants.{Other, Dot, DotWord}
-use Rattle.qpu_token.specs.Words.{is_word, number_value}
+use Rattle.qpu_text.specs.Numbers.{number_value}
+use Rattle.qpu_token.specs.Words.{is_word}
 use Rattle.qpu_token.specs.Places.{place_at}
 
 -- words in the text

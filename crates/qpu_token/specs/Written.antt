@@ -1,11 +1,13 @@
 -- Texts that are written word by word, and the tokens that they then have. This project's own.
-use Rattle.std.specs.Prelude.{◌≡◌, ℕ, ◌<◌, ◌==◌, ◌||◌, Bool, true, false, List, [], ◌∷◌, map, flat_map, if◌then◌else◌}
+use Rattle.std.specs.Prelude.{◌≡◌, ℕ, ◌<◌, ◌==◌, Bool, true, false, List, [], ◌∷◌, map, flat_map, if◌then◌else◌}
 use Rattle.qpu_token.specs.declared.token.TokenKind.{TokenKind}
 use Rattle.qpu_token.specs.declared.token.TokenKind.TheVariants as kind
 use Rattle.qpu_token.specs.declared.token.Token.{Token}
 use Rattle.qpu_token.specs.declared.before.Before.{Before}
 use Rattle.qpu_token.specs.declared.before.Before.TheVariants.{Other}
-use Rattle.qpu_token.specs.Words.{is_letter, is_digit, is_name_byte, is_sign_byte, is_run, is_hexadecimal, number_value}
+use Rattle.qpu_text.specs.Bytes.{is_letter, is_name_byte}
+use Rattle.qpu_text.specs.Numbers.{is_run, is_number, number_value}
+use Rattle.qpu_token.specs.Words.{is_sign_byte}
 use Rattle.qpu_token.specs.Tokens.{AreTokens, text_of, after_text, bound}
 
 -- what is written: a name, a number, a sign of one byte, a space, a line feed
@@ -63,7 +65,7 @@ CanStand dotted before [] = Unit {0}
 CanStand dotted before (Name word ∷ items) =
     (is_run (if dotted then is_name_byte else is_letter) is_name_byte word ≡ true) × Ends items × CanStand false (after_text before word) items
 CanStand dotted before (Number word ∷ items) =
-    (dotted ≡ false) × ((is_run is_digit is_digit word || is_hexadecimal word) ≡ true) × (number_value word < bound before)
+    (dotted ≡ false) × (is_number word ≡ true) × (number_value word < bound before)
     × Ends items × CanStand false (after_text before word) items
 CanStand dotted before (Sign byte ∷ items) = (is_sign_byte byte ≡ true) × CanStand (byte == 46) (after_text before (byte ∷ [])) items
 CanStand dotted before (Space ∷ items) = CanStand false before items

@@ -5,11 +5,9 @@
 #![tactic(auto)]
 
 mod before;
-mod bytes;
 mod fault;
 mod here;
 mod laws;
-mod number;
 mod piece;
 mod place;
 mod reading;

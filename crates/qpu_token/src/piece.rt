@@ -1,9 +1,10 @@
 ghost use Rattle.std.specs.Prelude.{◌≡◌, ◌<◌, ◌≤◌, length, drop};
-ghost use Rattle.qpu_token.specs.Pieces.{name_length, digits_length, hex_length, comment_length, number_length, short_piece, piece_of};
+ghost use Rattle.qpu_token.specs.Words.{is_sign_byte};
+ghost use Rattle.qpu_token.specs.Pieces.{name_length, comment_length, number_length, short_piece, piece_of};
 ghost use Rattle.qpu_token.specs.Tokens.{dotted};
 ghost use Rattle.qpu_token.specs.Reading.{PieceHere};
 
-use crate::bytes::{is_blank, is_digit, is_hex_digit, is_letter, is_name_byte, is_sign_byte};
+use qpu_text::{digits_length, hex_length, is_blank, is_digit, is_letter, is_lf, is_name_byte};
 
 /// What a piece of the text is.
 #[derive(Clone, Copy, Debug, PartialEq, Eq)]
@@ -39,28 +40,12 @@ fn name_length(rest: &[u8]) -> usize
     rest.iter().take_while(|byte| is_name_byte(**byte)).count()
 }
 
-/// The length of the longest run of digits at the front.
-fn digits_length(rest: &[u8]) -> usize
-    ensures value { result ≡ digits_length rest.now }
-    ensures inside { result ≤ length rest.now }
-{
-    rest.iter().take_while(|byte| is_digit(**byte)).count()
-}
-
-/// The length of the longest run of hexadecimal digits at the front.
-fn hex_length(rest: &[u8]) -> usize
-    ensures value { result ≡ hex_length rest.now }
-    ensures inside { result ≤ length rest.now }
-{
-    rest.iter().take_while(|byte| is_hex_digit(**byte)).count()
-}
-
 /// The bytes before the next line feed.
 fn comment_length(rest: &[u8]) -> usize
     ensures value { result ≡ comment_length rest.now }
     ensures inside { result ≤ length rest.now }
 {
-    rest.iter().take_while(|byte| **byte != b'\n').count()
+    rest.iter().take_while(|byte| !is_lf(**byte)).count()
 }
 
 /// The length of the longest number at the front; its first byte is judged elsewhere.
@@ -73,13 +58,23 @@ fn number_length(rest: &[u8]) -> usize
     }
 }
 
+/// A sign of one byte.
+fn is_sign_byte(byte: u8) -> bool
+    ensures { result ≡ is_sign_byte byte }
+{
+    matches!(
+        byte,
+        b'%' | b'&' | b'('..=b'/' | b':' | b';' | b'^' | b'|' | b'~'
+    )
+}
+
 /// A sign or line end at the front.
 #[tactic(auto, unfolding(crate::specs::Pieces::short_piece))]
 fn short_piece(rest: &[u8]) -> Option<Piece>
     requires { 0 < length rest.now }
     ensures { result ≡ short_piece rest.now }
 {
-    let (shape, length) = if rest[0] == b'\n' {
+    let (shape, length) = if is_lf(rest[0]) {
         (Shape::LineEnd, 1)
     } else if rest.starts_with(b"\r\n") {
         (Shape::LineEnd, 2)

@@ -3,9 +3,9 @@ ghost use Rattle.qpu_token.specs.Places.{place_at};
 ghost use Rattle.qpu_token.specs.Reading.{turn_of, TurnTaken};
 
 use crate::here::Here;
-use crate::number::number_of;
 use crate::piece::{Shape, piece_at};
 use crate::token::{MOST_BYTES, Token, TokenKind};
+use qpu_text::number_within;
 
 /// What reading on by one word comes to.
 #[derive(Clone, Copy, Debug, PartialEq, Eq)]
@@ -33,7 +33,7 @@ fn turn_of(here: Here, shape: Shape, word: &[u8]) -> Turn
         Shape::Name => Turn::Told(here.token(TokenKind::Name, next.at), next),
         Shape::Sign => Turn::Told(here.token(TokenKind::Punct, next.at), next),
         Shape::LineEnd => Turn::Told(here.token(TokenKind::LineEnd, next.at), next),
-        Shape::Number => match number_of(word, here.before) {
+        Shape::Number => match number_within(here.before.most(), word) {
             Some(n) => Turn::Told(here.token(TokenKind::Number(n), next.at), next),
             None => Turn::TooLarge(next),
         },

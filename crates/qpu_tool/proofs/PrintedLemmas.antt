@@ -8,7 +8,7 @@ use Rattle.qpu_machine.specs.Schedule.{After}
 use Rattle.qpu_job.specs.Plan.{Plan}
 use Rattle.qpu_job.specs.Opening.{memory_of, opening_machine}
 use Rattle.qpu_job.proofs.MayOpenLaw.{read_jobs_may_open}
-use Rattle.qpu_record.specs.Lines.{line_feeds}
+use Rattle.qpu_text.specs.Lines.{line_feeds}
 use Rattle.qpu_record.specs.Record.{merged, record_text}
 use Rattle.qpu_record.specs.Reading.{Parts}
 use Rattle.qpu_report.specs.Report.{report_text}

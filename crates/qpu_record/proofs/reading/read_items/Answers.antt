@@ -1,7 +1,7 @@
 -- Each line is the end, an item or a fault.
 use Rattle.std.proofs.Common.{rules, sym, ◌∙◌, arith}
 use Rattle.std.proofs.lemmas.Result.{err_from_is_err_and}
-use Rattle.qpu_record.specs.Lines.{cut_of}
+use Rattle.qpu_text.specs.Lines.{cut_of}
 use Rattle.qpu_record.proofs.ReadLemmas.{read_ends, read_fails, read_open, read_more, has_room, told_fault}
 use Rattle.qpu_record.proofs.reading.read_items.Goals as goal
 
