@@ -1,9 +1,18 @@
-//! The commands and their words.
-ghost use Rattle.std.specs.Prelude.{◌≡◌, ◌≤◌, map, string_bytes};
+//! The commands: their words, their longest inputs, and what they do.
+ghost use Rattle.std.specs.Prelude.{◌≡◌, ◌≤◌, IfOk, length, map, string_bytes};
 ghost use Rattle.std.specs.Borrow.{Bor};
 ghost use Rattle.qpu_tool.specs.Commands.{limit_of, command_of, are_words};
+ghost use Rattle.qpu_tool.specs.Answers.{AnswerBy};
 
+use crate::answer::Answer;
+use crate::assembling::assemble_text;
+use crate::checking::check_text;
 use crate::command::{MOST_INPUT, MOST_RECORD};
+use crate::disassembling::disassemble_text;
+use crate::replaying::replay_text;
+use crate::running::run_text;
+use qpu_word::NoMemory;
+use std::alloc::Global;
 
 /// A command that waits for nobody (this project's own).
 #[derive(Clone, Copy, Debug, PartialEq, Eq)]
@@ -29,6 +38,20 @@ impl Command {
         match self {
             Command::Replay => MOST_RECORD,
             _ => MOST_INPUT,
+        }
+    }
+
+    /// The answer to a text of ASCII.
+    pub(crate) fn answer(self, alloc: Global, text: &str) -> Result<Answer<'_>, NoMemory>
+        requires { length text.now ≤ limit_of self }
+        ensures { IfOk result (AnswerBy self text.now) }
+    {
+        match self {
+            Command::Run => run_text(alloc, text),
+            Command::Assemble => assemble_text(alloc, text),
+            Command::Disassemble => disassemble_text(alloc, text),
+            Command::Check => check_text(alloc, text),
+            Command::Replay => replay_text(alloc, text),
         }
     }
 }

@@ -9,4 +9,4 @@ returns-in-Some c = high c.in-Some.at (sym c.first_high.ensures ∙ c.in-Some.is
 
 pub returns-in-None : goal.returns-in-None
 returns-in-None c =
-    all_low c.args.command c.args.bytes.now c.answer_text.result (sym c.first_high.ensures ∙ c.in-None.is) (rw c.text_of.ensures at c.answer_text.ensures)
+    all_low c.args.command c.args.bytes.now c.answer.result (sym c.first_high.ensures ∙ c.in-None.is) (rw c.text_of.ensures at c.answer.ensures)
