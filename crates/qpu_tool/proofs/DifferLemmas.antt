@@ -4,7 +4,7 @@ use Rattle.std.specs.Prelude.{min, slice_index_or, ◌==◌, if◌then◌else◌
 use Rattle.std.proofs.lemmas.Bool.{eqb-true}
 use Rattle.std.proofs.lemmas.Bool.Decides.{nat_tests}
 use Rattle.std.proofs.lemmas.List.{drop_more, length-drop}
-use Rattle.qpu_tool.specs.RecordAnswers.{differing_line}
+use Rattle.qpu_tool.specs.Replaying.{differing_line}
 
 -- a text doesn't differ from itself
 

@@ -1,28 +1,17 @@
--- What follows of the answer to words.
-use Rattle.std.proofs.Common.{◌≡◌, ◌≢◌, ◌⊎◌, inl, inr, ℕ, List, None, Err, ap, subst}
-use Rattle.std.specs.Prelude.{position}
-use Rattle.qpu_io.specs.Output.{Output, appended}
+-- The answer to lines with words.
+use Rattle.std.proofs.Common.{◌≡◌, ◌≢◌, ◌⊎◌, inl, inr, ℕ, List, Err, ap}
 use Rattle.qpu_token.specs.declared.fault.AsmKind.TheVariants.{Memory}
 use Rattle.qpu_token.specs.declared.fault.AsmFault.{AsmFault}
 use Rattle.qpu_asm.specs.Answers.{no_memory}
 use Rattle.qpu_asm.specs.HexLines.{hex_words, IsHexFault}
-use Rattle.qpu_tool.specs.declared.status.Status.{Status}
-use Rattle.qpu_tool.specs.declared.status.Status.TheVariants.{Done, AsmRefused}
-use Rattle.qpu_tool.specs.Refusals.{is_high}
-use Rattle.qpu_tool.specs.Answer.{Answer}
-use Rattle.qpu_tool.specs.RunAnswers.{IsOfRun}
-use Rattle.qpu_tool.specs.TextAnswers.{DisAnswer, misread, told}
-use Rattle.qpu_tool.specs.Answers.{TellsLine, PrintsLines}
-
--- the statuses of answers to words
-abbrev pub IsOfDis : Status → Type 0
-IsOfDis Done = Unit {0}
-IsOfDis AsmRefused = Unit {0}
-IsOfDis _ = ⊥
-
-pub dis_status : (text : List ℕ) (answer : Answer) → DisAnswer text answer → IsOfDis answer.status
-dis_status text answer (misread fault is) = tt
-dis_status text answer (told words is) = tt
+use Rattle.qpu_tool.specs.declared.answer.Answer.{Answer}
+use Rattle.qpu_tool.specs.declared.answer.Answer.TheVariants.{Lines, Refused}
+use Rattle.qpu_tool.specs.declared.refusal.Refusal.TheVariants.{Asm}
+use Rattle.qpu_tool.specs.Disassembling.{DisAnswer, misread, told}
+use Rattle.qpu_tool.specs.Answer.{status_of}
+use Rattle.qpu_tool.specs.Causes.{IsOfText}
+use Rattle.qpu_tool.proofs.ResultLemmas.{one_value, one_error, not_both}
+use Rattle.qpu_tool.proofs.Soundness.{Sound}
 
 -- a fault that isn't want of memory is the text's
 
@@ -33,17 +22,15 @@ line_by text fault (inr is) none = is
 pub line_is : (text : List ℕ) (fault : AsmFault) → IsHexFault text fault → fault.kind ≢ Memory → hex_words text ≡ Err fault
 line_is text fault is none = line_by text fault is none
 
--- its first line that is no word is told
+one : (text : List ℕ) (a b : Answer) → DisAnswer text a → DisAnswer text b → a ≡ b
+one text a b (misread f is) (misread g is') = ap (λ (x : AsmFault). Refused (Asm x)) (one_error (hex_words text) f g is is')
+one text a b (misread f is) (told words due) = absurd (not_both (hex_words text) words f due is)
+one text a b (told words due) (misread f is) = absurd (not_both (hex_words text) words f due is)
+one text a b (told words due) (told other due') = ap (λ (w : List ℕ). Lines w) (one_value (hex_words text) words other due due')
 
-pub line_told_by : (text : List ℕ) (answer : Answer) (held held' : Output) → position is_high text ≡ None → DisAnswer text answer
-    → AsmRefused ≡ answer.status → held' ≡ appended held answer.text → TellsLine text held held'
-line_told_by text answer held held' ascii (misread fault is) e all = record { fault = fault; ascii = ascii; is_due = is; printed = all }
-line_told_by text answer held held' ascii (told words is) e all = absurd (let f : AsmRefused ≡ Done = e in cc)
+of_text : (text : List ℕ) (answer : Answer) → DisAnswer text answer → IsOfText (status_of answer)
+of_text text answer (misread fault is) = tt
+of_text text answer (told words is) = tt
 
--- its lines are printed
-
-pub disassembled_it : (text : List ℕ) (answer : Answer) (held held' : Output) (status : Status) → position is_high text ≡ None → DisAnswer text answer
-    → status ≡ answer.status → held' ≡ appended held answer.text → IsOfRun status → (status ≡ Done) × PrintsLines text held held'
-disassembled_it text answer held held' status ascii (misread fault is) e all of = absurd (subst IsOfRun e of)
-disassembled_it text answer held held' status ascii (told words is) e all of =
-    (e, record { words = words; ascii = ascii; are_due = is; printed = all })
+pub sound_dis : Sound DisAnswer
+sound_dis = record { one = one; of_text = of_text }

@@ -1,43 +1,64 @@
 -- Of one command and one input one answer at most is due.
-use Rattle.std.proofs.Common.{◌≡◌, ◌≤◌, inl, inr, ℕ, List, length, Option, Some, None, ap, sym, ◌∙◌, arith}
+use Rattle.std.proofs.Common.{◌≡◌, ◌<◌, ℕ, List, length, Result, Ok, Err, IfOk, refl, ap, subst, arith}
 use Rattle.std.specs.Prelude.{position}
-use Rattle.qpu_io.specs.Output.{Output, appended}
-use Rattle.qpu_tool.specs.declared.status.Status.{Status}
 use Rattle.qpu_tool.specs.declared.words.Command.{Command}
 use Rattle.qpu_tool.specs.declared.words.Command.TheVariants.{Run, Assemble, Disassemble, Check, Replay}
-use Rattle.qpu_tool.specs.Commands.{limit_of}
-use Rattle.qpu_tool.specs.Refusals.{is_high}
-use Rattle.qpu_tool.specs.Answer.{Answer, not_ascii}
-use Rattle.qpu_tool.specs.Answers.{AnswerBy, AnswerTo, high, low, AnswersTo, ComesTo}
-use Rattle.qpu_tool.proofs.OneDueText.{one_asm, one_dis, one_checked}
-use Rattle.qpu_tool.proofs.OneDueJob.{one_ran}
-use Rattle.qpu_tool.proofs.OneDueRecord.{one_recorded}
+use Rattle.qpu_tool.specs.declared.answer.Answer.{Answer}
+use Rattle.qpu_tool.specs.declared.answer.Answer.TheVariants.{Refused}
+use Rattle.qpu_tool.specs.declared.refusal.Refusal.TheVariants.{NotAscii}
+use Rattle.qpu_tool.specs.Ascii.{is_high, IsAscii}
+use Rattle.qpu_tool.specs.Answer.{status_of}
+use Rattle.qpu_tool.specs.Commands.{IsCommand, command_of, limit_of, HasChoice}
+use Rattle.qpu_tool.specs.Answers.{AnswerBy, AnswerTo, high, low, AnswerOf, no_command, past_limit, to_bytes}
+use Rattle.qpu_tool.specs.Causes.{IsOfText}
+use Rattle.qpu_tool.proofs.ResultLemmas.{one_some, not_some}
+use Rattle.qpu_tool.proofs.Soundness.{Sound}
+use Rattle.qpu_tool.proofs.AsmLemmas.{sound_asm}
+use Rattle.qpu_tool.proofs.DisLemmas.{sound_dis}
+use Rattle.qpu_tool.proofs.CheckLemmas.{sound_check}
+use Rattle.qpu_tool.proofs.RunLemmas.{sound_run}
+use Rattle.qpu_tool.proofs.ReplayLemmas.{sound_record}
 
-one_by : (command : Command) (text : List ℕ) (a b : Answer) → AnswerBy command text a → AnswerBy command text b → a ≡ b
-one_by Run text a b p q = one_ran text a b p q
-one_by Assemble text a b p q = one_asm text a b p q
-one_by Disassemble text a b p q = one_dis text a b p q
-one_by Check text a b p q = one_checked text a b p q
-one_by Replay text a b p q = one_recorded text a b p q
+sound : (command : Command) → Sound (λ text answer. AnswerBy command text answer)
+sound Run = sound_run
+sound Assemble = sound_asm
+sound Disassemble = sound_dis
+sound Check = sound_check
+sound Replay = sound_record
 
-same_place : (o : Option ℕ) (i j : ℕ) → o ≡ Some i → o ≡ Some j → i ≡ j
-same_place o i j p q = let e : Some i ≡ Some j = sym p ∙ q in cc
+pub of_text : (command : Command) (text : List ℕ) (answer : Answer) → AnswerTo command text answer → IsOfText (status_of answer)
+of_text command text answer (high at is) = tt
+of_text command text answer (low _ none due) = (sound command).of_text text answer due
 
-no_place : (o : Option ℕ) (i : ℕ) → o ≡ Some i → o ≡ None → ⊥
-no_place o i p q = absurd (let e : Some i ≡ None = sym p ∙ q in cc)
+pub all_low : {E : Type 0} (command : Command) (text : List ℕ) (r : Result Answer E) → IsAscii text → IfOk r (λ answer. AnswerBy command text answer)
+    → IfOk r (λ answer. AnswerTo command text answer)
+all_low {E} command text (Ok answer) ascii due = low answer ascii due
+all_low {E} command text (Err e) ascii due = tt
 
-pub one_due : (command : Command) (text : List ℕ) (a b : Answer) → AnswerTo command text a → AnswerTo command text b → a ≡ b
-one_due command text a b (high i is) (high j is') = ap (λ (n : ℕ). not_ascii n) (same_place (position is_high text) i j is is')
-one_due command text a b (high i is) (low _ none due) = absurd (no_place (position is_high text) i is none)
-one_due command text a b (low _ none due) (high i is) = absurd (no_place (position is_high text) i is none)
-one_due command text a b (low _ none due) (low _ none' due') = one_by command text a b due due'
+one_to : (command : Command) (text : List ℕ) (a b : Answer) → AnswerTo command text a → AnswerTo command text b → a ≡ b
+one_to command text a b (high i is) (high j is') = ap (λ (n : ℕ). Refused (NotAscii n)) (one_some (position is_high text) i j is is')
+one_to command text a b (high i is) (low _ none due) = absurd (not_some (position is_high text) i is none)
+one_to command text a b (low _ none due) (high i is) = absurd (not_some (position is_high text) i is none)
+one_to command text a b (low _ none due) (low _ none' due') = (sound command).one text a b due due'
 
--- so each that is due is the one that was given
+pub one_due : (command : Command) (text : List ℕ) (a b : Answer) → (HasChoice command → ⊥) → AnswerTo command text a → AnswerTo command text b → a ≡ b
+one_due command text a b _ due due' = one_to command text a b due due'
 
-pub given_alone : (command : Command) (text : List ℕ) (answer : Answer) (held held' : Output) (status : Status) → length text ≤ limit_of command
-    → AnswerTo command text answer → AnswersTo command text held held' status → ComesTo answer held held' status
-given_alone command text answer held held' status short due (inl want) = inl want
-given_alone command text answer held held' status short due (inr (inl long)) = absurd (omega (arith, short, long.1))
-given_alone command text answer held held' status short due (inr (inr all)) =
-    let same : all.1.answer ≡ answer = one_due command text all.1.answer answer all.1.due due in
-    inr (all.1.status_is ∙ ap (λ (a : Answer). a.status) same, all.1.printed ∙ ap (λ (a : Answer). appended held a.text) same)
+pub one_command : (words : List (List ℕ)) (command other : Command) → IsCommand words command → IsCommand words other → command ≡ other
+one_command words command other is too = one_some (command_of words) command other is too
+
+pub one_answer : (words : List (List ℕ)) (bytes : List ℕ) (a b : Answer) → AnswerOf words bytes a → AnswerOf words bytes b → a ≡ b
+one_answer words bytes a b (no_command none) (no_command none') = refl
+one_answer words bytes a b (no_command none) (past_limit command is long) = absurd (not_some (command_of words) command is none)
+one_answer words bytes a b (no_command none) (to_bytes command _ is short due) = absurd (not_some (command_of words) command is none)
+one_answer words bytes a b (past_limit command is long) (no_command none) = absurd (not_some (command_of words) command is none)
+one_answer words bytes a b (past_limit command is long) (past_limit other is' long') = refl
+one_answer words bytes a b (past_limit command is long) (to_bytes other _ is' short due) =
+    let there = subst (λ (k : Command). limit_of k < length bytes) (one_command words command other is is') long in
+    absurd (omega (arith, there, short))
+one_answer words bytes a b (to_bytes command _ is short due) (no_command none) = absurd (not_some (command_of words) command is none)
+one_answer words bytes a b (to_bytes command _ is short due) (past_limit other is' long) =
+    let there = subst (λ (k : Command). limit_of k < length bytes) (one_command words other command is' is) long in
+    absurd (omega (arith, there, short))
+one_answer words bytes a b (to_bytes command _ is short due) (to_bytes other _ is' short' due') =
+    one_to other bytes a b (subst (λ (k : Command). AnswerTo k bytes a) (one_command words command other is is') due) due'

@@ -1,5 +1,5 @@
--- The lines that refuse an input. This project's own.
-use Rattle.std.specs.Prelude.{ℕ, Bool, List, [], ◌∷◌, codes, decimal, nat_lt, slice_index_or, map}
+-- Why an input, or the words of a command, are refused: the status and the line of each. This project's own.
+use Rattle.std.specs.Prelude.{ℕ, List, [], ◌∷◌, Option, Some, None, codes, decimal, slice_index_or, map}
 use Rattle.qpu_io.specs.Text.{joined}
 use Rattle.qpu_word.specs.declared.fault.WordFault.{WordFault}
 use Rattle.qpu_word.specs.declared.fault.WordFault.TheVariants as word
@@ -17,15 +17,12 @@ use Rattle.qpu_replay.specs.declared.fault.ReplayFault.{ReplayFault}
 use Rattle.qpu_replay.specs.declared.fault.ReplayFault.TheVariants as replay_fault
 use Rattle.qpu_tool.specs.declared.status.Status.{Status}
 use Rattle.qpu_tool.specs.declared.status.Status.TheVariants as status
-use Rattle.qpu_tool.specs.declared.ascii.TheConstants.{LAST_ASCII}
+use Rattle.qpu_tool.specs.declared.refusal.Refusal.{Refusal}
+use Rattle.qpu_tool.specs.declared.refusal.Refusal.TheVariants.{Usage, ReadFault, TooLong, NotAscii, Asm, Job, Hazard, Record, Schedule, Report}
 
--- a byte that is no ASCII
-abbrev pub is_high : ℕ → Bool
-is_high byte = nat_lt LAST_ASCII byte
-
--- the line that tells the first byte that is none, counted from 0
-abbrev pub not_ascii_line : ℕ → List ℕ
-not_ascii_line at = joined (codes "not ascii at " ∷ decimal at ∷ codes "\n" ∷ [])
+-- a line of words and a number
+abbrev pub numbered_line : List ℕ → ℕ → List ℕ
+numbered_line words number = joined (words ∷ decimal number ∷ codes "\n" ∷ [])
 
 -- assembly text
 
@@ -56,10 +53,23 @@ asm_line fault =
 
 -- jobs
 
--- the line of a job's refusal, with its kind and the job's line
-abbrev pub job_line : List ℕ → ℕ → List ℕ
-job_line kind line =
+-- the line of a kind of fault, with the job's line
+abbrev pub kind_line : List ℕ → ℕ → List ℕ
+kind_line kind line =
     joined (codes "refused job " ∷ kind ∷ codes " at line " ∷ decimal line ∷ codes "\n" ∷ [])
+
+-- the line of a fault of a job's line; other faults have none
+abbrev pub job_line : JobFault → List ℕ
+job_line (fault.Line line) = kind_line (codes "Line") line
+job_line (fault.Size line) = kind_line (codes "Size") line
+job_line (fault.Limit line) = kind_line (codes "Limit") line
+job_line (fault.Twice line) = kind_line (codes "Twice") line
+job_line (fault.Processor line) = kind_line (codes "Processor") line
+job_line (fault.NoProgram line) = kind_line (codes "NoProgram") line
+job_line (fault.Place line) = kind_line (codes "Place") line
+job_line _ = []
+
+-- programs
 
 -- the name of a word's fault
 abbrev pub word_fault_name : WordFault → List ℕ
@@ -77,22 +87,19 @@ word_fault_name word.NoSource = codes "NoSource"
 
 -- the line of what the checker refuses, with a word before the name of the program; want of memory
 -- has none
-abbrev pub refused_line : List ℕ → List ℕ → CheckFault → List ℕ
-refused_line within name (check.Word at fault) =
+abbrev pub hazard_line : List ℕ → List ℕ → CheckFault → List ℕ
+hazard_line within name (check.Word at fault) =
     joined (codes "refused word " ∷ word_fault_name fault ∷ within ∷ name ∷ codes " at " ∷ decimal at ∷ codes "\n" ∷ [])
-refused_line within name (check.Hazard rule at before) =
+hazard_line within name (check.Hazard rule at before) =
     joined
     (codes "refused hazard H" ∷ decimal rule ∷ within ∷ name ∷ codes " at " ∷ decimal at ∷ codes " after "
     ∷ decimal before ∷ codes "\n" ∷ [])
-refused_line within name check.Memory = []
+hazard_line within name check.Memory = []
 
--- of a job's program of this name
-abbrev pub check_line : List ℕ → CheckFault → List ℕ
-check_line name refused = refused_line (codes " in ") name refused
-
--- of a program that has no name
-abbrev pub program_line : CheckFault → List ℕ
-program_line refused = refused_line [] [] refused
+-- of a program with a name or without
+abbrev pub program_line : Option (List ℕ) → CheckFault → List ℕ
+program_line None refused = hazard_line [] [] refused
+program_line (Some name) refused = hazard_line (codes " in ") name refused
 
 -- the name of the program of an index
 abbrev pub name_at : List (List ℕ) → ℕ → List ℕ
@@ -102,41 +109,43 @@ name_at names program = slice_index_or names program []
 abbrev pub names_of : Plan → List (List ℕ)
 names_of plan = map (λ program. program.name) plan.programs
 
--- the line of a job's fault, whose programs have these names; want of memory has none
-abbrev pub fault_line : List (List ℕ) → JobFault → List ℕ
-fault_line names (fault.Line line) = job_line (codes "Line") line
-fault_line names (fault.Size line) = job_line (codes "Size") line
-fault_line names (fault.Limit line) = job_line (codes "Limit") line
-fault_line names (fault.Twice line) = job_line (codes "Twice") line
-fault_line names (fault.Processor line) = job_line (codes "Processor") line
-fault_line names (fault.NoProgram line) = job_line (codes "NoProgram") line
-fault_line names (fault.Place line) = job_line (codes "Place") line
-fault_line names (fault.Asm told) = asm_line told
-fault_line names (fault.Check program refused) = check_line (name_at names program) refused
-fault_line names fault.Memory = []
-
--- the status of a job's fault
-abbrev pub fault_status : JobFault → Status
-fault_status (fault.Asm told) = status.AsmRefused
-fault_status (fault.Check program refused) = status.HazardRefused
-fault_status fault.Memory = status.NoMemory
-fault_status _ = status.JobRefused
-
 -- records
 
 -- the line of a record's fault; want of memory has none
 abbrev pub record_line : RecordFault → List ℕ
 record_line record_fault.Version = codes "refused record version\n"
-record_line (record_fault.Line line) = joined (codes "refused record line " ∷ decimal line ∷ codes "\n" ∷ [])
-record_line (record_fault.Number line) = joined (codes "refused record number at line " ∷ decimal line ∷ codes "\n" ∷ [])
+record_line (record_fault.Line line) = numbered_line (codes "refused record line ") line
+record_line (record_fault.Number line) = numbered_line (codes "refused record number at line ") line
 record_line record_fault.Memory = []
 
 -- the line of a schedule that isn't a complete permitted one
-abbrev pub replay_line : ReplayFault → List ℕ
-replay_line (replay_fault.NotEnabled item step) =
+abbrev pub schedule_line : ReplayFault → List ℕ
+schedule_line (replay_fault.NotEnabled item step) =
     joined (codes "refused record item " ∷ decimal item ∷ codes " step " ∷ decimal step ∷ codes "\n" ∷ [])
-replay_line replay_fault.NotFinished = codes "refused record not finished\n"
+schedule_line replay_fault.NotFinished = codes "refused record not finished\n"
 
--- the line of a report that isn't the machine's
-abbrev pub report_line : ℕ → List ℕ
-report_line line = joined (codes "refused record report at line " ∷ decimal line ∷ codes "\n" ∷ [])
+-- all refusals
+
+abbrev pub refusal_line : Refusal → List ℕ
+refusal_line Usage = codes "usage\n"
+refusal_line ReadFault = codes "read fault\n"
+refusal_line TooLong = codes "too long\n"
+refusal_line (NotAscii at) = numbered_line (codes "not ascii at ") at
+refusal_line (Asm fault) = asm_line fault
+refusal_line (Job fault) = job_line fault
+refusal_line (Hazard program fault) = program_line program fault
+refusal_line (Record fault) = record_line fault
+refusal_line (Schedule fault) = schedule_line fault
+refusal_line (Report line) = numbered_line (codes "refused record report at line ") line
+
+abbrev pub refusal_status : Refusal → Status
+refusal_status Usage = status.Usage
+refusal_status ReadFault = status.ReadFault
+refusal_status TooLong = status.TooLong
+refusal_status (NotAscii at) = status.NotAscii
+refusal_status (Asm fault) = status.AsmRefused
+refusal_status (Job fault) = status.JobRefused
+refusal_status (Hazard program fault) = status.HazardRefused
+refusal_status (Record fault) = status.RecordRefused
+refusal_status (Schedule fault) = status.RecordRefused
+refusal_status (Report line) = status.RecordRefused

@@ -1,6 +1,6 @@
 //! Texts of ASCII.
 ghost use Rattle.std.specs.Prelude.{◌≡◌, None, position};
-ghost use Rattle.qpu_tool.specs.Refusals.{is_high};
+ghost use Rattle.qpu_tool.specs.Ascii.{is_high};
 
 /// The last byte that is ASCII.
 pub const LAST_ASCII: u8 = 127;

@@ -1,6 +1,6 @@
 //! Where two texts differ.
 ghost use Rattle.std.specs.Prelude.{◌≡◌, ◌<◌, ◌+◌, ◌^◌, ◌==◌, if◌then◌else◌};
-ghost use Rattle.qpu_tool.specs.RecordAnswers.{differing_line};
+ghost use Rattle.qpu_tool.specs.Replaying.{differing_line};
 
 /// The line behind a byte of a line.
 fn line_behind(line: u64, byte: u8) -> u64

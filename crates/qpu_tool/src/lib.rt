@@ -6,23 +6,37 @@
 //! contract of `plain`.
 #![tactic(auto)]
 
+mod answer;
+mod answering;
 mod ascii;
 mod assembling;
 mod checking;
+mod code;
 mod command;
 mod comparing;
+mod counted;
 mod disassembling;
+mod ended;
 mod holding;
-mod judging;
 mod laws;
-mod misspelling;
+mod lines;
+mod name;
+mod opening;
+mod printing;
+mod refusal;
 mod refusing;
-mod refusing_records;
 mod replaying;
 mod running;
 mod status;
 mod words;
 
+pub use answer::Answer;
+pub use code::Code;
 pub use command::{MOST_INPUT, MOST_RECORD, plain};
-pub use laws::one_answer_is_due;
+pub use counted::Counted;
+pub use ended::{EndedMachine, EndedRun};
+pub use laws::{due_is_of_the_bytes, one_answer_is_due};
+pub use name::ProgramName;
+pub use refusal::Refusal;
 pub use status::Status;
+pub use words::Command;

@@ -1,5 +1,7 @@
 ghost use Rattle.std.specs.Prelude.{◌≡◌};
-ghost use Rattle.qpu_tool.specs.Statuses.{status_code};
+ghost use Rattle.qpu_tool.specs.Statuses.{status_code, status_for};
+
+use qpu_machine::Ending;
 
 /// How the program answers; its exit status is the code (this project's own).
 #[derive(Clone, Copy, Debug, PartialEq, Eq)]
@@ -56,5 +58,17 @@ impl Status {
             Status::TooLong => 12,
             Status::NotAscii => 13,
         }
+    }
+}
+
+/// The status of a run with an ending.
+pub(crate) fn status_for(ending: Ending) -> Status
+    ensures { result ≡ status_for ending }
+{
+    match ending {
+        Ending::Done => Status::Done,
+        Ending::Stuck => Status::Stuck,
+        Ending::RanOut => Status::RanOut,
+        Ending::Faulted => Status::Faulted,
     }
 }

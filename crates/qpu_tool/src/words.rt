@@ -1,8 +1,18 @@
-//! The commands and their words.
-ghost use Rattle.std.specs.Prelude.{◌≡◌, ◌≤◌, ◌↔◌, IsTrue, IfSome, IfNone, [], ◌∷◌, map, string_bytes};
-ghost use Rattle.qpu_tool.specs.Commands.{IsRunCommand, IsCommand, IsNoCommand, limit_of};
+//! The commands: their words, their longest inputs, and what they do.
+ghost use Rattle.std.specs.Prelude.{◌≡◌, ◌≤◌, IfOk, length, map, string_bytes};
+ghost use Rattle.std.specs.Borrow.{Bor};
+ghost use Rattle.qpu_tool.specs.Commands.{limit_of, command_of, are_words};
+ghost use Rattle.qpu_tool.specs.Answers.{AnswerBy};
 
+use crate::answer::Answer;
+use crate::assembling::assemble_text;
+use crate::checking::check_text;
 use crate::command::{MOST_INPUT, MOST_RECORD};
+use crate::disassembling::disassemble_text;
+use crate::replaying::replay_text;
+use crate::running::run_text;
+use qpu_word::NoMemory;
+use std::alloc::Global;
 
 /// A command that waits for nobody (this project's own).
 #[derive(Clone, Copy, Debug, PartialEq, Eq)]
@@ -30,59 +40,56 @@ impl Command {
             _ => MOST_INPUT,
         }
     }
-}
 
-/// Whether a word of the command line is this text.
-fn is_word(word: &String, text: &str) -> bool
-    ensures { IsTrue result ↔ (string_bytes word.now ≡ text.now) }
-{
-    word.as_str() == text
-}
-
-/// Whether the words are those of a run without workers.
-fn is_run(words: &[String]) -> bool
-    ensures { IsTrue result ↔ IsRunCommand (map string_bytes words.now) }
-{
-    let [command, option, workers] = words else {
-        return false;
-    };
-    if !is_word(command, "run") {
-        return false;
+    /// The answer to a text of ASCII.
+    pub(crate) fn answer(self, alloc: Global, text: &str) -> Result<Answer<'_>, NoMemory>
+        requires { length text.now ≤ limit_of self }
+        ensures { IfOk result (AnswerBy self text.now) }
+    {
+        match self {
+            Command::Run => run_text(alloc, text),
+            Command::Assemble => assemble_text(alloc, text),
+            Command::Disassemble => disassemble_text(alloc, text),
+            Command::Check => check_text(alloc, text),
+            Command::Replay => replay_text(alloc, text),
+        }
     }
-    if !is_word(option, "-w") {
-        return false;
-    }
-    is_word(workers, "0")
 }
 
-/// Whether the words are this one alone.
-fn is_alone(words: &[String], name: &str) -> bool
-    ensures { IsTrue result ↔ (map string_bytes words.now ≡ name.now ∷ []) }
+/// Whether the words of the command line are these.
+fn are(words: &[String], row: &[&str]) -> bool
+    ensures { result ≡ are_words (map (λ word. word.now) row.now) (map string_bytes words.now) }
 {
-    let [word] = words else {
-        return false;
-    };
-    is_word(word, name)
+    match words {
+        [] => match row {
+            [] => true,
+            [_, ..] => false,
+        },
+        [word, words @ ..] => match row {
+            [] => false,
+            [name, row @ ..] => word.as_str() == *name && are(words, row),
+        },
+    }
 }
 
 /// The command that the words are.
+#[tactic(auto, unfolding(crate::specs::Commands::command_of))]
 pub(crate) fn command_of(words: &[String]) -> Option<Command>
-    ensures some { IfSome result (IsCommand (map string_bytes words.now)) }
-    ensures none { IfNone result (IsNoCommand (map string_bytes words.now)) }
+    ensures { result ≡ command_of (map string_bytes words.now) }
 {
-    if is_run(words) {
+    if are(words, &["run", "-w", "0"]) {
         return Some(Command::Run);
     }
-    if is_alone(words, "asm") {
+    if are(words, &["asm"]) {
         return Some(Command::Assemble);
     }
-    if is_alone(words, "dis") {
+    if are(words, &["dis"]) {
         return Some(Command::Disassemble);
     }
-    if is_alone(words, "check") {
+    if are(words, &["check"]) {
         return Some(Command::Check);
     }
-    if is_alone(words, "replay") {
+    if are(words, &["replay"]) {
         return Some(Command::Replay);
     }
     None

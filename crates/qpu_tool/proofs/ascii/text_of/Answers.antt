@@ -1,5 +1,5 @@
 use Rattle.std.proofs.lemmas.Str.{IsUtf8-from_ascii}
-use Rattle.qpu_tool.proofs.JudgeLemmas.{all_low}
+use Rattle.qpu_tool.proofs.AsciiLemmas.{all_low}
 use Rattle.qpu_tool.proofs.ascii.text_of.Goals as goal
 
 pub unreachable-requires : goal.unreachable-requires

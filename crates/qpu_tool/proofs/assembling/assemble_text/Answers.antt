@@ -1,21 +1,17 @@
 -- A text is refused by its first fault, or its words are due.
-use Rattle.std.proofs.Common.{map}
-use Rattle.qpu_word.specs.declared.word.Word.{Word}
-use Rattle.qpu_tool.specs.TextAnswers.{refused, assembled, asm_refusal, words_answer}
-use Rattle.qpu_tool.specs.Answers.{answered, low}
+use Rattle.qpu_word.specs.Words.{numbers_of}
+use Rattle.qpu_tool.specs.declared.answer.Answer.TheVariants.{Refused}
+use Rattle.qpu_tool.specs.declared.refusal.Refusal.TheVariants.{Asm}
+use Rattle.qpu_tool.specs.Assembling.{AsmAnswer, refused, assembled}
 use Rattle.qpu_tool.proofs.AsmLemmas.{fault_is}
+use Rattle.qpu_tool.proofs.ResultLemmas.{is_as}
 use Rattle.qpu_tool.proofs.assembling.assemble_text.Goals as goal
 
-pub returns-else-is_want : goal.returns-else-is_want
-returns-else-is_want g c =
-    let none = c.is_want.ensures.no c.if-is_want.false in
-    answered (asm_refusal c.in-Err.fault)
-    (low (asm_refusal c.in-Err.fault) c.requires.ascii
-    (refused c.in-Err.fault (fault_is c.args.text.now c.in-Err.fault c.in-Err.ensures.err none) none))
-    c.say_asm_fault.ensures
-
 pub returns-in-Ok : goal.returns-in-Ok
-returns-in-Ok g c =
-    let words = map (λ (w : Word). w.0) c.in-Ok.words.items in
-    answered (words_answer words) (low (words_answer words) c.requires.ascii (assembled words c.in-Ok.ensures.ok))
-    (rw c.deref.ensures.value at c.say_words.ensures)
+unfolding numbers_of
+returns-in-Ok c = rw c.new.ensures (assembled (numbers_of c.in-Ok.words.items) c.in-Ok.ensures.ok)
+
+pub returns-in-Err : goal.returns-in-Err
+returns-in-Err c =
+    is_as (AsmAnswer c.args.text.now) (Refused (Asm c.in-Err.fault)) c.misspelled.result
+    (λ none. refused c.in-Err.fault (fault_is c.args.text.now c.in-Err.fault c.in-Err.ensures.err none) none) c.misspelled.ensures

@@ -1,13 +1,12 @@
 -- A text is refused by its first fault, or its words are judged.
-use Rattle.qpu_tool.specs.TextAnswers.{misspelled, asm_refusal}
-use Rattle.qpu_tool.specs.Answers.{answered, low}
+use Rattle.qpu_tool.specs.declared.answer.Answer.TheVariants.{Refused}
+use Rattle.qpu_tool.specs.declared.refusal.Refusal.TheVariants.{Asm}
+use Rattle.qpu_tool.specs.Checking.{CheckAnswer, misspelled}
 use Rattle.qpu_tool.proofs.AsmLemmas.{fault_is}
+use Rattle.qpu_tool.proofs.ResultLemmas.{is_as}
 use Rattle.qpu_tool.proofs.checking.check_text.Goals as goal
 
-pub returns-else-is_want : goal.returns-else-is_want
-returns-else-is_want g c =
-    let none = c.is_want.ensures.no c.if-is_want.false in
-    answered (asm_refusal c.in-Err.fault)
-    (low (asm_refusal c.in-Err.fault) c.requires.ascii
-    (misspelled c.in-Err.fault (fault_is c.args.text.now c.in-Err.fault c.in-Err.ensures.err none) none))
-    c.say_asm_fault.ensures
+pub returns-in-Err : goal.returns-in-Err
+returns-in-Err c =
+    is_as (CheckAnswer c.args.text.now) (Refused (Asm c.in-Err.fault)) c.misspelled.result
+    (λ none. misspelled c.in-Err.fault (fault_is c.args.text.now c.in-Err.fault c.in-Err.ensures.err none) none) c.misspelled.ensures

@@ -1,13 +1,12 @@
 -- A text that doesn't differ from the report is the report.
-use Rattle.std.proofs.Common.{◌≡◌, inr, ℕ, Option, None, Some, sym, ◌∙◌}
-use Rattle.std.specs.Prelude.{IsNone}
-use Rattle.qpu_tool.proofs.DifferLemmas.{same_texts}
+use Rattle.std.proofs.Common.{sym, ◌∙◌}
+use Rattle.qpu_record.specs.Reading.{parts_of}
+use Rattle.qpu_report.specs.Report.{report_text}
+use Rattle.qpu_tool.proofs.ReplayLemmas.{unlike_is}
 use Rattle.qpu_tool.proofs.replaying.unlike.Goals as goal
 
-none_is : (o : Option ℕ) → IsNone o → o ≡ None
-none_is None n = λ _. None
-none_is (Some x) n = absurd (cc)
-
-pub returns-clause-same : goal.returns-clause-same
-returns-clause-same c = λ none.
-    inr (same_texts c.args.rest.now c.args.report.now c.args.first (sym c.differing_line.ensures ∙ none_is c.differing_line.result none))
+pub returns : goal.returns
+returns c =
+    let report = rw (c.as_bytes-rest.ensures.value, c.bytes.ensures, c.in_ok-report.ensures) at c.differing_line.ensures in
+    unlike_is (parts_of c.args.parts.now) (report_text c.args.end.now) c.differing_line.result
+    (rw c.as_bytes-rest.ensures.value at (sym c.is_empty.ensures ∙ c.if-is_empty.false)) report

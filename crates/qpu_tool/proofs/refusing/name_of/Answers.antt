@@ -1,9 +1,0 @@
--- The name is that of the program of the index.
-use Rattle.std.proofs.Common.{refl, arith, ◌∙◌}
-use Rattle.qpu_tool.proofs.JudgeLemmas.{name_there}
-use Rattle.qpu_tool.proofs.refusing.name_of.Goals as goal
-
-pub returns : goal.returns
-returns c =
-    c.as_bytes.ensures.value
-    ∙ name_there c.args.programs.now c.args.program _ c.index-programs-at.result (omega arith) refl

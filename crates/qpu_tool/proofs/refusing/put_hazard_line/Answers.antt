@@ -1,5 +1,0 @@
--- The numbers that are written are the hazard's.
-use Rattle.qpu_tool.proofs.refusing.put_hazard_line.Goals as goal
-
-pub returns : goal.returns
-returns g c = rw (c.from.ensures, c.from-2.ensures, c.from-3.ensures) at c.put_all.ensures
