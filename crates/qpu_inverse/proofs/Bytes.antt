@@ -109,11 +109,7 @@ name_plain n is = record { ascii = run_ascii (spelling n) (name_text n is); few 
 
 digit_low : (d : ℕ) → d < 16 → is_low (hex_digit d) ≡ true
 unfolding is_low
-digit_low d low = by_size (nat_lt d 10) refl
-  where
-    by_size : (b : Bool) → nat_lt d 10 ≡ b → nat_lt (if b then d + 48 else d + 87) 128 ≡ true
-    by_size true e = grind (arith, nat_tests, e)
-    by_size false e = grind (arith, nat_tests, e)
+digit_low d low = grind (arith, nat_tests, low)
 
 hex_plain : (k n : ℕ) → IsPlain k (hex_digits k n)
 hex_plain k n =
