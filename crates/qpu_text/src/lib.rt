@@ -5,7 +5,7 @@ mod bytes;
 mod lines;
 mod numbers;
 
-pub use bytes::{is_blank, is_digit, is_hex_digit, is_letter, is_lf, is_name_byte};
+pub use bytes::{is_blank, is_digit, is_letter, is_lf, is_name_byte};
 pub use lines::{Line, before_comment, first_line, line_feeds};
 pub use numbers::{
     DECIMAL, HEXADECIMAL, all_digits, digits_length, hex_length, is_number, number_within,
