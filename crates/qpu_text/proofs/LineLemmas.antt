@@ -1,5 +1,5 @@
 -- Lines and fields cut off a text, by the place of the first byte of their kind.
-use Rattle.std.proofs.Common.{◌≡◌, ◌∙◌, ℕ, suc, ◌+◌, ◌<◌, ◌≤◌, Bool, true, false, List, [], ◌∷◌, ◌++◌, length, take, drop, get_or, Some, None, refl, ap, arith, one-add}
+use Rattle.std.proofs.Common.{◌≡◌, ◌∙◌, ℕ, suc, ◌+◌, ◌<◌, ◌≤◌, Bool, true, false, List, [], ◌∷◌, ◌++◌, length, take, drop, get_or, Some, None, refl, ap, sym, arith, one-add}
 use Rattle.std.specs.Prelude.{position, ◌==◌}
 use Rattle.std.specs.List.{position_or_len}
 use Rattle.std.specs.Str.{IsUtf8, IsCharBoundary}
@@ -9,7 +9,7 @@ use Rattle.std.proofs.lemmas.List.{take_more}
 use Rattle.std.proofs.lemmas.List.Quantifiers.{position-Some}
 use Rattle.std.proofs.lemmas.Str.{IsCharBoundary-after_ascii}
 use Rattle.qpu_text.specs.Bytes.{LF, is_lf}
-use Rattle.qpu_text.specs.Lines.{Cut, cut_at, lines}
+use Rattle.qpu_text.specs.Lines.{Cut, cut_at, first_line, whole_line, lines}
 
 pub at_first : {X : Type 0} (p : X → Bool) (xs : List X) (i : ℕ) → position p xs ≡ Some i → (position_or_len p xs < length xs) × (position_or_len p xs ≡ i)
 at_first p xs i h = (grind (arith, nat_tests), grind (arith, nat_tests))
@@ -75,62 +75,48 @@ whole_in mark (byte ∷ text) past = whole_by mark byte text (is_mark mark byte)
 pub cut_none : (mark : ℕ) (text : List ℕ) → position (is_mark mark) text ≡ None → cut_at mark text ≡ uncut text
 cut_none mark text h = whole_in mark text (none_first (is_mark mark) text h)
 
--- the first of the lines of a text with a line feed
+-- the first line begins the lines
 
-first_by : (byte : ℕ) (text : List ℕ) (here : Bool) → is_lf byte ≡ here
-    → (position_or_len is_lf text < length text → lines text ≡ take (position_or_len is_lf text + 1) text ∷ lines (drop (position_or_len is_lf text + 1) text))
-    → position_or_len is_lf (byte ∷ text) < length (byte ∷ text)
-    → lines (byte ∷ text) ≡ take (position_or_len is_lf (byte ∷ text) + 1) (byte ∷ text) ∷ lines (drop (position_or_len is_lf (byte ∷ text) + 1) (byte ∷ text))
+abbrev BeginsLines : List ℕ → Type 0
+BeginsLines text = lines text ≡ whole_line (first_line text) ∷ lines (first_line text).rest
+
+onto_whole : (byte : ℕ) (front rest : List ℕ) (found : Bool) → whole_line (record { front = byte ∷ front; found = found; rest = rest }) ≡ byte ∷ whole_line (record { front = front; found = found; rest = rest })
+onto_whole byte front rest true = refl
+onto_whole byte front rest false = refl
+
+begins_one : (byte : ℕ) (here : Bool) → is_lf byte ≡ here → BeginsLines (byte ∷ [])
+unfolding lines cut_at
+begins_one byte true is = rw is refl
+begins_one byte false is = rw is refl
+
+begins_more : (byte : ℕ) (text : List ℕ) (here : Bool) → is_lf byte ≡ here → BeginsLines text → BeginsLines (byte ∷ text)
+unfolding lines cut_at
+begins_more byte text true is more = rw is refl
+begins_more byte text false is more =
+    let cut = first_line text in
+    rw (is, more) (ap (λ (line : List ℕ). line ∷ lines cut.rest) (sym (onto_whole byte cut.front cut.rest cut.found)))
+
+begins : (byte : ℕ) (text : List ℕ) → BeginsLines (byte ∷ text)
+begins byte [] = begins_one byte (is_lf byte) refl
+begins byte (next ∷ text) = begins_more byte (next ∷ text) (is_lf byte) refl (begins next text)
+
+pub lines_none : lines [] ≡ []
 unfolding lines
-first_by byte text true is rest below = rw (eqb-true byte LF is) refl
-first_by byte text false is rest below =
-    let place : position_or_len is_lf (byte ∷ text) + 1 ≡ suc (position_or_len is_lf text + 1) = rw is (omega arith) in
-    let more = rest (omega (arith, place, below)) in
-    rw (place, is, more) refl
+lines_none = refl
 
-first_in : (text : List ℕ) → position_or_len is_lf text < length text → lines text ≡ take (position_or_len is_lf text + 1) text ∷ lines (drop (position_or_len is_lf text + 1) text)
-first_in [] below = absurd (omega (arith, below))
-first_in (byte ∷ text) below = first_by byte text (is_lf byte) refl (first_in text) below
-
-pub lines_first : (text : List ℕ) (at : ℕ) → position is_lf text ≡ Some at → lines text ≡ take (at + 1) text ∷ lines (drop (at + 1) text)
-lines_first text at h =
-    let found = at_first is_lf text at h in
-    rw (← found.1) (first_in text found.0)
-
--- it ends with that
+-- a line that is cut off ends with a line feed
 pub line_ends : (text : List ℕ) (at : ℕ) → position is_lf text ≡ Some at → take (at + 1) text ≡ take at text ++ LF ∷ []
 line_ends text at h =
     let found = position-Some is_lf text at 0 h in
     take_more text at 0 found.0 ∙ ap (λ (b : ℕ). take at text ++ b ∷ []) (eqb-true (get_or text at 0) LF found.1)
 
--- a text without line feed is a line
-
-one_byte : (byte : ℕ) (here : Bool) → is_lf byte ≡ here → 1 ≤ position_or_len is_lf (byte ∷ []) → lines (byte ∷ []) ≡ (byte ∷ []) ∷ []
-unfolding lines
-one_byte byte true is past = absurd (omega (arith, place_here is_lf byte [] is, past))
-one_byte byte false is past = rw is refl
-
-last_by : (byte : ℕ) (text : List ℕ) (here : Bool) → is_lf byte ≡ here
-    → (length text ≤ position_or_len is_lf text → lines text ≡ text ∷ [])
-    → length (byte ∷ text) ≤ position_or_len is_lf (byte ∷ text)
-    → lines (byte ∷ text) ≡ (byte ∷ text) ∷ []
-unfolding lines
-last_by byte text true is rest past = absurd (omega (arith, place_here is_lf byte text is, past))
-last_by byte text false is rest past =
-    let more = rest (omega (arith, place_behind is_lf byte text is, past)) in
-    rw (is, more) refl
-
-last_in : (byte : ℕ) (text : List ℕ) → length (byte ∷ text) ≤ position_or_len is_lf (byte ∷ text) → lines (byte ∷ text) ≡ (byte ∷ text) ∷ []
-last_in byte [] past = one_byte byte (is_lf byte) refl past
-last_in byte (next ∷ text) past = last_by byte (next ∷ text) (is_lf byte) refl (last_in next text) past
+pub lines_first : (text : List ℕ) (at : ℕ) → position is_lf text ≡ Some at → lines text ≡ take (at + 1) text ∷ lines (drop (at + 1) text)
+lines_first [] at h = absurd (omega (arith, (at_first is_lf [] at h).0))
+lines_first (byte ∷ text) at h = begins byte text ∙ rw (cut_some LF (byte ∷ text) at h, line_ends (byte ∷ text) at h) refl
 
 pub lines_last : (text : List ℕ) → position is_lf text ≡ None → 0 < length text → lines text ≡ text ∷ []
 lines_last [] h some = absurd (omega (arith, some))
-lines_last (byte ∷ text) h some = last_in byte text (none_first is_lf (byte ∷ text) h)
-
-pub lines_none : lines [] ≡ []
-unfolding lines
-lines_none = refl
+lines_last (byte ∷ text) h some = begins byte text ∙ rw (cut_none LF (byte ∷ text) h, lines_none) refl
 
 -- behind a line feed a text may be cut
 pub lf_boundary : (text : List ℕ) (at : ℕ) → IsUtf8 text → position is_lf text ≡ Some at → IsCharBoundary text (at + 1)

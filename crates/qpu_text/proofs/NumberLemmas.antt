@@ -47,14 +47,7 @@ is_within most v cut is other =
     let test : nat_le v most ≡ true = grind (arith, nat_tests, small) in
     rw (test, same) refl
 
--- numbers that are within a bound, and that aren't
-
-within_by : (most v n : ℕ) (small : Bool) → nat_le v most ≡ small → Some n ≡ (if small then Some v else None) → (n ≡ v) × (v ≤ most)
-within_by most v n true is e = (cc, grind (arith, nat_tests, is))
-within_by most v n false is e = absurd (cc)
-
-pub within_some : (most v n : ℕ) → Some n ≡ within most v → (n ≡ v) × (v ≤ most)
-within_some most v n e = within_by most v n (nat_le v most) refl e
+-- where none is told, the number is above the most
 
 above_by : (most v : ℕ) (small : Bool) → nat_le v most ≡ small → None ≡ (if small then Some v else None) → most < v
 above_by most v true is e = absurd (cc)

@@ -18,7 +18,7 @@ pub fn is_digit(byte: u8) -> bool
 }
 
 /// A hexadecimal digit, in either case.
-pub fn is_hex_digit(byte: u8) -> bool
+pub(crate) fn is_hex_digit(byte: u8) -> bool
     ensures { result ≡ is_hex_digit byte }
 {
     matches!(byte, b'0'..=b'9' | b'a'..=b'f' | b'A'..=b'F')

@@ -9,7 +9,7 @@ mod digits;
 mod lines;
 mod numbers;
 
-pub use bytes::{is_blank, is_digit, is_hex_digit, is_letter, is_lf, is_name_byte};
+pub use bytes::{is_blank, is_digit, is_letter, is_lf, is_name_byte};
 pub use digits::hex_digits;
 pub use lines::{Line, before_comment, first_line, line_feeds};
 pub use numbers::{

@@ -26,7 +26,6 @@ pub fn first_line(text: &str) -> Line<'_>
     ensures lines { 0 < length text.now → lines text.now ≡ result.whole.now ∷ lines result.rest.now }
     ensures sizes { length result.whole.now + length result.rest.now ≡ length text.now }
     ensures some { 0 < length text.now → 0 < length result.whole.now }
-    ensures nothing { result.ended ≡ false → length result.rest.now ≡ 0 }
     ensures parts { result.ended ≡ true → length result.front.now + length result.rest.now + 1 ≡ length text.now }
 {
     let bytes = text.as_bytes();
