@@ -72,7 +72,7 @@ fn fault_of(word: Word) -> Option<WordFault>
 /// The least place, counted in words from 0, whose word is outside the profile, with that word's
 /// fault. None exactly where all words, at most 4,096, are in the profile.
 #[tactic(auto, using(crate::proofs::CodeLemmas::number_at, crate::proofs::CodeLemmas::length_numbers))]
-pub fn first_outside(words: &[Word]) -> Option<(u32, WordFault)>
+fn first_outside(words: &[Word]) -> Option<(u32, WordFault)>
     requires { length words.now ≤ 4096 }
     ensures inside { IfNone result (AllInProfile (numbers_of words.now)) }
     ensures outside { IfSome result (λ first. IsFirstOutside (numbers_of words.now) first.0 first.1) }

@@ -13,7 +13,7 @@ mod slots;
 mod ways;
 
 pub use control::{Control, Next, Progress, Target};
-pub use flow::{Flow, FlowFault, first_outside};
+pub use flow::{Flow, FlowFault};
 pub use laws::{one_answer_follows, one_word_is_first_outside};
 pub use slots::{Slots, Successors};
 

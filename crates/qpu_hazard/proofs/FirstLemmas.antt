@@ -1,12 +1,14 @@
 -- One hazard at most is first, and one fault at most is due.
-use Rattle.std.proofs.Common.{◌≡◌, ℕ, List, refl, ap, sym, inl, inr, arith}
+use Rattle.std.proofs.Common.{◌≡◌, ℕ, List, Result, Ok, Err, refl, ap, sym, subst, inl, inr, arith}
+use Rattle.std.specs.Prelude.{IfErr}
 use Rattle.qpu_word.specs.declared.fault.WordFault.{WordFault}
-use Rattle.qpu_flow.specs.Code.{IsFirstOutside}
+use Rattle.qpu_flow.specs.Code.{AllInProfile, IsFirstOutside}
 use Rattle.qpu_flow.proofs.OutsideLemmas.{none_outside, one_outside}
 use Rattle.qpu_hazard.specs.declared.breaks.Hazard.{Hazard}
+use Rattle.qpu_hazard.specs.declared.checked.CheckFault.{CheckFault}
 use Rattle.qpu_hazard.specs.declared.checked.CheckFault.TheVariants as check
 use Rattle.qpu_hazard.specs.Refusal.{NoneRefusable, NotAfter, IsFirst, OneFirst}
-use Rattle.qpu_hazard.specs.Faults.{NoFault, OneFault}
+use Rattle.qpu_hazard.specs.Faults.{IsHazardFault, IsCheckFault, NoFault, OneFault}
 
 -- a hazard by its place, rule and place told with it
 abbrev pub hazard : ℕ → ℕ → ℕ → Hazard
@@ -70,3 +72,11 @@ pub no_fault : NoFault
 no_fault code (check.Word at w) inside clean is none = none_outside code at w inside is
 no_fault code (check.Hazard rule at before) inside clean is none = none_first code (hazard at rule before) clean is.1
 no_fault code check.Memory inside clean is none = none refl
+
+-- the refusal of a program of the profile is that of its words
+pub fault_of_words : {T : Type 0} (flow code : List ℕ) (r : Result T CheckFault) → flow ≡ code → AllInProfile code → IfErr r (IsHazardFault flow) → IfErr r (IsCheckFault code)
+fault_of_words flow code (Ok checked) is inside told = tt
+fault_of_words flow code (Err (check.Word at w)) is inside told = absurd told
+fault_of_words flow code (Err (check.Hazard rule at before)) is inside told =
+    (inside, subst (λ (x : List ℕ). IsFirst x (hazard at rule before)) is told)
+fault_of_words flow code (Err check.Memory) is inside told = tt

@@ -6,7 +6,7 @@ ghost use Rattle.qpu_word.specs.Words.{numbers_of};
 ghost use Rattle.qpu_flow.specs.Code.{AllInProfile};
 ghost use Rattle.qpu_hazard.specs.Paths.{IsClean};
 ghost use Rattle.qpu_hazard.specs.Refusal.{NoneRefusable};
-ghost use Rattle.qpu_hazard.specs.Faults.{IsCheckFault};
+ghost use Rattle.qpu_hazard.specs.Faults.{IsHazardFault, IsCheckFault};
 
 use crate::rules::H10;
 use crate::search::explore;
@@ -51,22 +51,14 @@ impl Model for Checked {
     ghost invariant = { λ checked. IsClean checked.flow };
 }
 
-/// Judges words, at most 4,096, over all paths. Words outside the profile are refused first, at the
-/// first of them in the text. A program of the profile is refused where a path leads to a break:
-/// with the break of the least place, of these with the least rule, of these with the least place
-/// told with it. All other programs are checked ones.
-pub fn check(alloc: Global, words: &[Word]) -> Result<Checked, CheckFault>
-    requires { length words.now ≤ 4096 }
-    ensures words { IfOk result (λ checked. checked ≡ numbers_of words.now) }
-    ensures inside { OnOk result (AllInProfile (numbers_of words.now)) }
-    ensures clean { OnOk result (NoneRefusable (numbers_of words.now)) }
-    ensures first { IfErr result (IsCheckFault (numbers_of words.now)) }
+/// Judges a program of the profile over all paths. It is refused where a path leads to a break: with
+/// the break of the least place, of these with the least rule, of these with the least place told
+/// with it. All other programs are checked ones. The one error beside want of memory is `Hazard`.
+pub fn judge(alloc: Global, flow: Flow) -> Result<Checked, CheckFault>
+    ensures words { IfOk result (λ checked. checked ≡ flow) }
+    ensures clean { OnOk result (NoneRefusable flow) }
+    ensures first { IfErr result (IsHazardFault flow) }
 {
-    let flow = match Flow::of(alloc, words) {
-        Ok(flow) => flow,
-        Err(FlowFault::Word(at, fault)) => return Err(CheckFault::Word(at, fault)),
-        Err(FlowFault::Memory) => return Err(CheckFault::Memory),
-    };
     if flow.len() == 0 {
         return Err(CheckFault::Hazard {
             rule: H10,
@@ -84,6 +76,22 @@ pub fn check(alloc: Global, words: &[Word]) -> Result<Checked, CheckFault>
             before: h.before,
         }),
         None => Ok(Checked { flow }),
+    }
+}
+
+/// Judges words, at most 4,096, over all paths. Words outside the profile are refused first, at the
+/// first of them in the text. Where there is none, the answer is that of `judge`.
+pub fn check(alloc: Global, words: &[Word]) -> Result<Checked, CheckFault>
+    requires { length words.now ≤ 4096 }
+    ensures words { IfOk result (λ checked. checked ≡ numbers_of words.now) }
+    ensures inside { OnOk result (AllInProfile (numbers_of words.now)) }
+    ensures clean { OnOk result (NoneRefusable (numbers_of words.now)) }
+    ensures first { IfErr result (IsCheckFault (numbers_of words.now)) }
+{
+    match Flow::of(alloc, words) {
+        Ok(flow) => judge(alloc, flow),
+        Err(FlowFault::Word(at, fault)) => Err(CheckFault::Word(at, fault)),
+        Err(FlowFault::Memory) => Err(CheckFault::Memory),
     }
 }
 

@@ -17,7 +17,7 @@ mod seen;
 mod trail;
 
 pub use breaks::{Break, Hazard};
-pub use checked::{CheckFault, Checked, Programs, check};
+pub use checked::{CheckFault, Checked, Programs, check, judge};
 pub use laws::{
     a_word_defines_masks, clean_programs_are_not_refused, forgetting_changes_nothing,
     one_check_fault, one_hazard_is_first, opens_on_a_path, processors_open_on_a_path,

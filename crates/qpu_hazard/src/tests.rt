@@ -1,4 +1,5 @@
-use crate::{CheckFault, check};
+use crate::{CheckFault, check, judge};
+use qpu_flow::Flow;
 use qpu_word::{Program, Word, WordFault};
 use std::test::Fail;
 
@@ -594,6 +595,26 @@ fn a_word_outside_the_profile_comes_before_hazards(rt: HostRuntime) -> Result<()
         return Err(Fail::from("an fadd is outside the profile"));
     };
     assert!(rt; fault == CheckFault::Word(1, WordFault::FloatOp));
+    Ok(())
+}
+
+#[test]
+fn a_program_of_the_profile_is_judged(rt: HostRuntime) -> Result<(), Fail> {
+    let Ok(clean) = Flow::of(rt.alloc(), &[END, NOP, NOP]) else {
+        return Err(Fail::from("the words are in the profile"));
+    };
+    let Ok(checked) = judge(rt.alloc(), clean) else {
+        return Err(Fail::from("no path breaks a rule"));
+    };
+    assert!(rt; checked.len() == 3 && checked.word(0) == Some(END));
+    let Ok(endless) = Flow::of(rt.alloc(), &[NOP, NOP]) else {
+        return Err(Fail::from("the words are in the profile"));
+    };
+    let Err(fault) = judge(rt.alloc(), endless) else {
+        return Err(Fail::from("the program has no end"));
+    };
+    let (rule, at, before) = (10, 1, 1);
+    assert!(rt; fault == CheckFault::Hazard { rule, at, before });
     Ok(())
 }
 

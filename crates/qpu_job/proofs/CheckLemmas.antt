@@ -1,7 +1,9 @@
 -- Programs checked one after another.
-use Rattle.std.proofs.Common.{◌≡◌, ℕ, ◌+◌, ◌<◌, ◌≤◌, All, List, [], ◌∷◌, ◌++◌, length, take, get_or, refl, ap, sym, subst, ◌∙◌, arith}
+use Rattle.std.proofs.Common.{◌≡◌, ℕ, ◌+◌, ◌<◌, ◌≤◌, All, List, [], ◌∷◌, ◌++◌, length, append-nil, take, get_or, refl, ap, sym, subst, ◌∙◌, arith}
 use Rattle.std.specs.List.{AllWithin}
-use Rattle.std.proofs.lemmas.List.{get_or-map, length-map, take_more}
+use Rattle.std.proofs.Math.ListN.{get_or-append}
+use Rattle.std.proofs.Math.Seq.{get_or-append_seam}
+use Rattle.std.proofs.lemmas.List.{get_or-map, length-append, length-map, take_more}
 use Rattle.std.proofs.lemmas.List.Elements.{AllWithin-more}
 use Rattle.qpu_word.specs.Words.{numbers_of}
 use Rattle.qpu_flow.specs.Code.{AllInProfile}
@@ -12,7 +14,7 @@ use Rattle.qpu_job.specs.declared.code.Code.{Code}
 use Rattle.qpu_job.specs.declared.fault.JobFault.{JobFault}
 use Rattle.qpu_job.specs.declared.fault.JobFault.TheVariants as fault
 use Rattle.qpu_job.specs.Programs.{codes_of}
-use Rattle.qpu_job.specs.Opening.{IsShort, IsCheckedFault, IsCheckOf}
+use Rattle.qpu_job.specs.Opening.{IsShort, IsCheckedFault, IsHazardOf}
 
 abbrev numbers : Code → List ℕ
 numbers code = numbers_of code.words.items
@@ -41,35 +43,36 @@ one_taken codes i code d old new low is before made =
     made ∙ rw (take_more (codes_of codes) i [] (omega (arith, length_codes codes)), code_is codes i code d [] low is, before) refl
 
 -- a code at an index is short enough
-pub short_numbers : (codes : List Code) (i : ℕ) (code d : Code) → All IsShort (codes_of codes) → i < length codes → code ≡ get_or codes i d
-    → length (numbers_of code.words.items) ≤ 4096
-short_numbers codes i code d short low is =
-    subst IsShort (code_is codes i code d [] low is) (short i [] (omega (arith, length_codes codes)))
-
 pub short_words : (codes : List Code) (i : ℕ) (code d : Code) → All IsShort (codes_of codes) → i < length codes → code ≡ get_or codes i d
     → length code.words.items ≤ 4096
 short_words codes i code d short low is =
-    omega (arith, length_numbers code.words.items, short_numbers codes i code d short low is)
+    let numbers_short : length (numbers_of code.words.items) ≤ 4096 =
+    subst IsShort (code_is codes i code d [] low is) (short i [] (omega (arith, length_codes codes))) in
+    omega (arith, length_numbers code.words.items, numbers_short)
 
--- one program is refused
-pub check_fails : (codes : List Code) (i : ℕ) (code d : Code) (e : JobFault) → i < length codes → code ≡ get_or codes i d
-    → All AllInProfile (codes_of codes) → AllWithin NoneRefusable (codes_of codes) 0 i → IsCheckOf i (numbers_of code.words.items) e
-    → IsCheckedFault (codes_of codes) e
-check_fails codes i code d (fault.Check program (check.Word at f)) low is inside clean fails =
+-- lists of which the second is empty
+pub none_left : (xs rest all : List (List ℕ)) → xs ++ rest ≡ all → length rest ≡ 0 → xs ≡ all
+none_left xs [] all is none = sym (append-nil xs) ∙ is
+none_left xs (x ∷ rest) all is none = absurd (omega (arith, none))
+
+-- one program of the profile is refused
+pub hazard_fails : (codes before rest : List (List ℕ)) (code : List ℕ) (e : JobFault) → before ++ code ∷ rest ≡ codes → All AllInProfile codes → All NoneRefusable before
+    → IsHazardOf (length before) code e → IsCheckedFault codes e
+hazard_fails codes before rest code (fault.Check program (check.Word at f)) is inside clean fails = absurd fails.1
+hazard_fails codes before rest code (fault.Check program (check.Hazard rule at told)) is inside clean fails =
     rw fails.0 (
-      omega (arith, length_codes codes),
-      rw (code_is codes i code d [] low is) fails.1,
-      λ k e low' high. inside k e (omega (arith, length_codes codes)),
+      omega (arith, ap length is, length-append before (code ∷ rest)),
+      inside,
+      rw (← is, get_or-append_seam before code rest []) fails.1,
+      λ k d low high. rw (← is, get_or-append before (code ∷ rest) d k high) (clean k d high),
     )
-check_fails codes i code d (fault.Check program (check.Hazard rule at before)) low is inside clean fails =
-    rw fails.0 (omega (arith, length_codes codes), inside, rw (code_is codes i code d [] low is) fails.1.1, clean)
-check_fails codes i code d (fault.Check program check.Memory) low is inside clean fails = absurd fails
-check_fails codes i code d (fault.Asm told) low is inside clean fails = absurd fails
-check_fails codes i code d fault.Memory low is inside clean fails = tt
-check_fails codes i code d (fault.Line at) low is inside clean fails = absurd fails
-check_fails codes i code d (fault.Size at) low is inside clean fails = absurd fails
-check_fails codes i code d (fault.Limit at) low is inside clean fails = absurd fails
-check_fails codes i code d (fault.Twice at) low is inside clean fails = absurd fails
-check_fails codes i code d (fault.Processor at) low is inside clean fails = absurd fails
-check_fails codes i code d (fault.NoProgram at) low is inside clean fails = absurd fails
-check_fails codes i code d (fault.Place at) low is inside clean fails = absurd fails
+hazard_fails codes before rest code (fault.Check program check.Memory) is inside clean fails = absurd fails
+hazard_fails codes before rest code (fault.Asm told) is inside clean fails = absurd fails
+hazard_fails codes before rest code fault.Memory is inside clean fails = tt
+hazard_fails codes before rest code (fault.Line at) is inside clean fails = absurd fails
+hazard_fails codes before rest code (fault.Size at) is inside clean fails = absurd fails
+hazard_fails codes before rest code (fault.Limit at) is inside clean fails = absurd fails
+hazard_fails codes before rest code (fault.Twice at) is inside clean fails = absurd fails
+hazard_fails codes before rest code (fault.Processor at) is inside clean fails = absurd fails
+hazard_fails codes before rest code (fault.NoProgram at) is inside clean fails = absurd fails
+hazard_fails codes before rest code (fault.Place at) is inside clean fails = absurd fails

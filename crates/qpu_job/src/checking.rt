@@ -1,46 +1,55 @@
 //! The programs of a job, checked.
-ghost use Rattle.std.specs.Prelude.{◌≡◌, ◌≤◌, All, IfSome, IfNone, IfOk, IfErr, OnOk, length, ◌++◌, ◌∷◌, []};
-ghost use Rattle.qpu_word.specs.Words.{numbers_of};
+ghost use Rattle.std.specs.Prelude.{◌≡◌, ◌<◌, ◌≤◌, All, IfOk, IfErr, OnOk, length, ◌++◌, ◌∷◌, []};
 ghost use Rattle.qpu_flow.specs.Code.{AllInProfile};
 ghost use Rattle.qpu_hazard.specs.Refusal.{NoneRefusable};
 ghost use Rattle.qpu_job.specs.declared.job.TheConstants.{MOST_PROGRAMS};
 ghost use Rattle.qpu_job.specs.Programs.{codes_of};
-ghost use Rattle.qpu_job.specs.Opening.{IsShort, IsChecked, IsCheckedFault, IsCheckOf};
+ghost use Rattle.qpu_job.specs.Opening.{IsShort, IsCheckedFault, IsHazardOf};
 
 use crate::code::Code;
 use crate::fault::JobFault;
-use qpu_flow::first_outside;
-use qpu_hazard::{CheckFault, Checked, Programs, check};
+use qpu_flow::{Flow, FlowFault};
+use qpu_hazard::{CheckFault, Checked, Programs, judge};
 use std::alloc::Global;
 
-/// The first program with a word outside the profile, and why it is refused.
-fn outside(codes: &[Code]) -> Option<(u32, CheckFault)>
+/// The flow of each program. The one error beside want of memory is the first word outside the
+/// profile, of the first program with one.
+fn flows_of(alloc: Global, codes: &[Code]) -> Result<Vec<Flow>, JobFault>
     requires few { length codes.now ≤ MOST_PROGRAMS }
     requires short { All IsShort (codes_of codes.now) }
-    ensures refused { IfSome result (λ r. IsChecked (codes_of codes.now) r.0 r.1) }
-    ensures inside { IfNone result (All AllInProfile (codes_of codes.now)) }
+    ensures ok { IfOk result (λ flows. flows.items ≡ codes_of codes.now) }
+    ensures inside { OnOk result (All AllInProfile (codes_of codes.now)) }
+    ensures err { IfErr result (λ fault. IsCheckedFault (codes_of codes.now) fault) }
 {
+    let mut flows = Vec::new(alloc);
     for (program, code) in codes.iter().enumerate() {
-        if let Some((at, fault)) = first_outside(&code.words) {
-            return Some((program as u32, CheckFault::Word(at, fault)));
-        }
+        let flow = match Flow::of(alloc, &code.words) {
+            Ok(flow) => flow,
+            Err(FlowFault::Word(at, fault)) => {
+                return Err(JobFault::Check {
+                    program: program as u32,
+                    fault: CheckFault::Word(at, fault),
+                });
+            }
+            Err(FlowFault::Memory) => return Err(JobFault::Memory),
+        };
+        let Ok(()) = flows.push(flow) else {
+            return Err(JobFault::Memory);
+        };
     }
-    None
+    Ok(flows)
 }
 
-/// Checks a program over all paths, and puts it behind those before it.
-fn put_checked(
-    alloc: Global,
-    list: &mut Vec<Checked>,
-    program: u32,
-    code: &Code,
-) -> Result<(), JobFault>
-    requires { length (numbers_of code.now.words.items) ≤ 4096 }
-    ensures ok { OnOk result (list.new.items ≡ list.old.items ++ numbers_of code.now.words.items ∷ []) }
-    ensures clean { OnOk result (NoneRefusable (numbers_of code.now.words.items)) }
-    ensures err { IfErr result (λ fault. IsCheckOf program (numbers_of code.now.words.items) fault) }
+/// Judges a program over all paths, and puts it behind those before it. How many these are is its
+/// index.
+fn put_checked(alloc: Global, list: &mut Vec<Checked>, flow: Flow) -> Result<(), JobFault>
+    requires { length list.old.items < MOST_PROGRAMS }
+    ensures ok { OnOk result (list.new.items ≡ list.old.items ++ flow ∷ []) }
+    ensures clean { OnOk result (NoneRefusable flow) }
+    ensures err { IfErr result (λ fault. IsHazardOf (length list.old.items) flow fault) }
 {
-    match check(alloc, &code.words) {
+    let program = list.len() as u32;
+    match judge(alloc, flow) {
         Ok(checked) => match list.push(checked) {
             Ok(()) => Ok(()),
             Err(_) => Err(JobFault::Memory),
@@ -50,19 +59,18 @@ fn put_checked(
     }
 }
 
-/// Checks programs whose words are all in the profile. The one error beside want of memory is the
-/// first hazard of the first program with one.
-fn check_all(alloc: Global, codes: &[Code]) -> Result<Vec<Checked>, JobFault>
-    requires few { length codes.now ≤ MOST_PROGRAMS }
-    requires short { All IsShort (codes_of codes.now) }
-    requires inside { All AllInProfile (codes_of codes.now) }
-    ensures ok { IfOk result (λ list. list.items ≡ codes_of codes.now) }
-    ensures clean { OnOk result (All NoneRefusable (codes_of codes.now)) }
-    ensures err { IfErr result (λ fault. IsCheckedFault (codes_of codes.now) fault) }
+/// Judges programs of the profile. The one error beside want of memory is the first hazard, of the
+/// first program with one.
+fn judge_all(alloc: Global, flows: Vec<Flow>) -> Result<Vec<Checked>, JobFault>
+    requires few { length flows.items ≤ MOST_PROGRAMS }
+    requires inside { All AllInProfile flows.items }
+    ensures ok { IfOk result (λ list. list.items ≡ flows.items) }
+    ensures clean { OnOk result (All NoneRefusable flows.items) }
+    ensures err { IfErr result (λ fault. IsCheckedFault flows.items fault) }
 {
     let mut list = Vec::new(alloc);
-    for (program, code) in codes.iter().enumerate() {
-        put_checked(alloc, &mut list, program as u32, code)?;
+    for flow in flows {
+        put_checked(alloc, &mut list, flow)?;
     }
     Ok(list)
 }
@@ -77,10 +85,8 @@ pub(crate) fn check_programs(alloc: Global, codes: &[Code]) -> Result<Programs, 
     ensures clean { OnOk result (All NoneRefusable (codes_of codes.now)) }
     ensures err { IfErr result (λ fault. IsCheckedFault (codes_of codes.now) fault) }
 {
-    if let Some((program, fault)) = outside(codes) {
-        return Err(JobFault::Check { program, fault });
-    }
+    let flows = flows_of(alloc, codes)?;
     Ok(Programs {
-        list: check_all(alloc, codes)?,
+        list: judge_all(alloc, flows)?,
     })
 }
