@@ -8,9 +8,9 @@ use Rattle.qpu_token.specs.Tokens.{AreTokens}
 use Rattle.qpu_token.specs.Faults.{FaultOf, IsFirstFault}
 use Rattle.qpu_expr.specs.Expansion.{Left, expansion}
 use Rattle.qpu_expr.specs.Answer.{IsItsFault as IsExpansionFault}
-use Rattle.qpu_asm.specs.declared.stop.Stop.{Stop}
-use Rattle.qpu_asm.specs.declared.stop.Stop.TheVariants.{Fault, Memory}
-use Rattle.qpu_asm.specs.Answers.{answered, StopsBy}
+use Rattle.qpu_token.specs.declared.stop.Stop.{Stop}
+use Rattle.qpu_token.specs.declared.stop.Stop.TheVariants.{Fault, Memory}
+use Rattle.qpu_token.specs.Stops.{answered, StopsBy}
 use Rattle.qpu_asm.specs.Assembly.{encoding, IsAssembly, IsItsFault}
 
 abbrev is_memory : AsmKind → Bool

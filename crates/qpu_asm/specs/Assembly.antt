@@ -12,7 +12,7 @@ use Rattle.qpu_expr.specs.declared.expanded.LabelAt.{LabelAt}
 use Rattle.qpu_expr.specs.Tables.{put_in}
 use Rattle.qpu_expr.specs.Expansion.{Left, expansion}
 use Rattle.qpu_asm.specs.declared.line.Line.{Line}
-use Rattle.qpu_asm.specs.Answers.{no_memory}
+use Rattle.qpu_token.specs.Stops.{no_memory}
 use Rattle.qpu_asm.specs.Placed.{Labels, placed_token}
 use Rattle.qpu_asm.specs.LinesRead.{read_line, word_in}
 

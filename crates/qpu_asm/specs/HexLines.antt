@@ -10,7 +10,7 @@ use Rattle.qpu_text.specs.Numbers.{hex_length, value_in}
 use Rattle.qpu_text.specs.Lines.{lines, before_comment}
 use Rattle.qpu_asm.specs.declared.hex.HexLine.{HexLine}
 use Rattle.qpu_asm.specs.declared.hex.HexLine.TheVariants.{Nothing, Number, Invalid}
-use Rattle.qpu_asm.specs.Answers.{no_memory}
+use Rattle.qpu_token.specs.Stops.{no_memory}
 use Rattle.qpu_asm.specs.Assembly.{and_then}
 
 -- one line

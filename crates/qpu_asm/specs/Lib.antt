@@ -11,7 +11,6 @@ pub mod Sections
 pub mod Marks
 pub mod Judging
 pub mod Meanings
-pub mod Answers
 pub mod LinesRead
 pub mod Assembly
 pub mod Laws

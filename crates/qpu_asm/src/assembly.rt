@@ -4,14 +4,13 @@ ghost use Rattle.qpu_token.specs.Tokens.{AreTokens};
 ghost use Rattle.qpu_expr.specs.declared.limits.TheConstants.{MOST_WORDS};
 ghost use Rattle.qpu_expr.specs.Expansion.{Left};
 ghost use Rattle.qpu_asm.specs.Placed.{placed_token};
-ghost use Rattle.qpu_asm.specs.Answers.{Answers, Leads};
+ghost use Rattle.qpu_token.specs.Stops.{Answers, Leads};
 ghost use Rattle.qpu_asm.specs.Assembly.{label_put, labels_of, closing_token, line_at, word_behind, words_of_lines, encoding, AreWords, IsItsFault};
 
 use crate::line::{Line, read_line};
 use crate::placed::{Placed, symbol_of, text_of};
-use crate::stop::Stop;
 use qpu_expr::{Expanded, LabelAt, PlainLine, Table, expand};
-use qpu_token::{AsmFault, MOST_BYTES, Token, TokenKind, tokens};
+use qpu_token::{AsmFault, MOST_BYTES, Stop, Token, TokenKind, tokens};
 use qpu_word::Word;
 use std::alloc::{AllocError, Global};
 use std::marker::Model;

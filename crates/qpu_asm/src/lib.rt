@@ -24,7 +24,6 @@ mod piece;
 mod placed;
 mod roles;
 mod section;
-mod stop;
 mod words;
 
 pub use again::canonical_lines_are_read;

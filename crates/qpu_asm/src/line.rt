@@ -1,7 +1,7 @@
 //! What a line says, or its first fault.
 ghost use Rattle.std.specs.Prelude.{◌≡◌, Ok};
 ghost use Rattle.qpu_asm.specs.Sections.{parts_of};
-ghost use Rattle.qpu_asm.specs.Answers.{Answers};
+ghost use Rattle.qpu_token.specs.Stops.{Answers};
 ghost use Rattle.qpu_asm.specs.LinesRead.{word_number, set_value, set_comma, set_name, directive, first_token, label_fault, unknown_fault, by_parts, instruction_line, read_line, word_in};
 
 use crate::expression::expression_length;
@@ -12,9 +12,8 @@ use crate::part::{Part, ended};
 use crate::piece::name_alone;
 use crate::placed::Placed;
 use crate::section::{Section, first_own_fault, first_unknown, parts_of, sections_of};
-use crate::stop::Stop;
 use qpu_line::{Instruction, Name, Symbol};
-use qpu_token::{AsmFault, AsmKind, Token};
+use qpu_token::{AsmFault, AsmKind, Stop, Token};
 use std::alloc::Global;
 
 /// What a line says.

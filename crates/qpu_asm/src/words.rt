@@ -1,13 +1,12 @@
 //! The words of a text that has one in a line.
 ghost use Rattle.std.specs.Prelude.{◌≡◌, ◌≤◌, ◌∷◌, ◌++◌, [], length, IfOk, IfErr, OnOk};
-ghost use Rattle.qpu_asm.specs.Answers.{Leads, StopsBy};
+ghost use Rattle.qpu_token.specs.Stops.{Leads, StopsBy};
 ghost use Rattle.qpu_word.specs.Words.{numbers_of};
 ghost use Rattle.qpu_asm.specs.HexLines.{hex_line, with_hex, hex_words, AreHexWords, IsHexFault};
 
 use crate::hex::{HexLine, hex_line};
-use crate::stop::Stop;
 use qpu_text::first_line;
-use qpu_token::{AsmFault, AsmKind, MOST_BYTES};
+use qpu_token::{AsmFault, AsmKind, MOST_BYTES, Stop};
 use qpu_word::Word;
 use std::alloc::{AllocError, Global};
 

@@ -2,9 +2,9 @@
 use Rattle.std.proofs.Common.{◌≡◌, ℕ, zero, suc, ◌+◌, ◌-◌, ◌<◌, ◌≤◌, length, take, get_or, Bool, true, false, List, [], ◌∷◌, drop, Ok, Err, refl, ap, sym, ◌∙◌, arith}
 use Rattle.std.proofs.lemmas.List.{take_rest}
 use Rattle.qpu_token.specs.declared.fault.AsmFault.{AsmFault}
-use Rattle.qpu_expr.specs.declared.stop.Stop.{Stop}
-use Rattle.qpu_expr.specs.declared.stop.Stop.TheVariants.{Fault, Memory}
-use Rattle.qpu_expr.specs.Leads.{StopsBy}
+use Rattle.qpu_token.specs.declared.stop.Stop.{Stop}
+use Rattle.qpu_token.specs.declared.stop.Stop.TheVariants.{Fault, Memory}
+use Rattle.qpu_token.specs.Stops.{StopsBy}
 use Rattle.qpu_expr.specs.declared.place.Place.{Place}
 use Rattle.qpu_expr.specs.declared.deed.Act.{Act}
 use Rattle.qpu_expr.specs.LineTokens.{LineTokens}

@@ -23,7 +23,6 @@ pub mod Directives
 pub mod Calls
 pub mod Deeds
 pub mod Tolds
-pub mod Leads
 pub mod Expansion
 pub mod Nesting
 pub mod Answer

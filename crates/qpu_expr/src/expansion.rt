@@ -1,7 +1,7 @@
 //! The expansion of a text.
 ghost use Rattle.std.specs.Prelude.{◌≡◌, ◌+◌, drop, slice_get};
 ghost use Rattle.qpu_expr.specs.Stage.{turn_counted};
-ghost use Rattle.qpu_expr.specs.Leads.{Leads};
+ghost use Rattle.qpu_token.specs.Stops.{Leads};
 ghost use Rattle.qpu_expr.specs.Expansion.{turns, closed, performed, taken, run_within};
 ghost use Rattle.qpu_expr.specs.Nesting.{is_deepest, below};
 
@@ -11,8 +11,7 @@ use crate::judge::{close_line, take_line};
 use crate::line::BodyLine;
 use crate::place::{Place, fault_at};
 use crate::state::State;
-use crate::stop::Stop;
-use qpu_token::AsmKind;
+use qpu_token::{AsmKind, Stop};
 use std::alloc::Global;
 
 /// Whether nothing more may be nested.

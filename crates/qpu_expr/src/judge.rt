@@ -4,7 +4,7 @@ ghost use Rattle.qpu_token.specs.declared.fault.AsmFault.{AsmFault};
 ghost use Rattle.qpu_expr.specs.declared.limits.TheConstants.{MOST_TOKENS};
 ghost use Rattle.qpu_expr.specs.LineTokens.{LineTokens};
 ghost use Rattle.qpu_expr.specs.Stage.{too_long, label_twice};
-ghost use Rattle.qpu_expr.specs.Leads.{Led};
+ghost use Rattle.qpu_expr.specs.Answer.{Led};
 ghost use Rattle.qpu_expr.specs.Lines.{behind_label, head_of, label_of};
 ghost use Rattle.qpu_expr.specs.Deeds.{left_tokens, deed_by, fault_in, least_fault, done_by, line_does, closing_deed, closes};
 
@@ -14,9 +14,8 @@ use crate::directive::{macro_deed, repeat_deed, set_deed};
 use crate::line::{BodyLine, Head, Line, Pair, behind_label, head_of, is_colon, label_of};
 use crate::place::{Place, fault_at, place_of};
 use crate::state::{Change, State};
-use crate::stop::Stop;
 use crate::told::{NOTHING_TOLD, Told, told_of};
-use qpu_token::{AsmFault, AsmKind, Token};
+use qpu_token::{AsmFault, AsmKind, Stop, Token};
 use std::alloc::{AllocError, Global};
 
 /// The tokens of a line that is left, behind its label; with it where a second one follows.

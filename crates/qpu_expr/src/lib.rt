@@ -36,7 +36,6 @@ mod register;
 mod scan;
 mod setting;
 mod state;
-mod stop;
 mod symbol;
 mod table;
 mod told;

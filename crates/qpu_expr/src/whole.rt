@@ -9,8 +9,7 @@ use crate::expansion::run_lines;
 use crate::limits::MOST_DEPTH;
 use crate::line::lines_of;
 use crate::state::State;
-use crate::stop::Stop;
-use qpu_token::{AsmFault, Token};
+use qpu_token::{AsmFault, Stop, Token};
 use std::alloc::Global;
 
 /// Expands a text with its tokens: what is left without macros, repeats, set names, expressions and

@@ -8,19 +8,12 @@ ghost use Rattle.qpu_dis.specs.Text.{disassembly};
 use qpu_asm::assemble;
 use qpu_dis::disassemble;
 use qpu_io::PlainSink;
-use qpu_token::{AsmFault, AsmKind};
+use qpu_token::{AsmFault, NO_MEMORY};
 use qpu_word::Word;
 use std::alloc::Global;
 
 /// The most bytes of a line, with its end.
 const LINE_BYTES: usize = 1_025;
-
-/// Want of memory, which has no place.
-const NO_MEMORY: AsmFault = AsmFault {
-    kind: AsmKind::Memory,
-    line: 0,
-    column: 0,
-};
 
 /// The number of a word, which has 64 bits.
 fn number_of(word: Word) -> u64

@@ -3,6 +3,7 @@ pub mod Pieces
 pub mod Places
 pub mod Tokens
 pub mod Faults
+pub mod Stops
 pub mod Reading
 pub mod OneAnswer
 pub mod Written

@@ -45,3 +45,10 @@ pub struct AsmFault {
     /// The column in the line.
     pub column: u32,
 }
+
+/// Want of memory, which has no place.
+pub const NO_MEMORY: AsmFault = AsmFault {
+    kind: AsmKind::Memory,
+    line: 0,
+    column: 0,
+};

@@ -11,12 +11,14 @@ mod laws;
 mod piece;
 mod place;
 mod reading;
+mod stop;
 mod token;
 mod turn;
 
-pub use fault::{AsmFault, AsmKind};
+pub use fault::{AsmFault, AsmKind, NO_MEMORY};
 pub use laws::{one_answer, written_texts_have_their_tokens};
 pub use reading::tokens;
+pub use stop::Stop;
 pub use token::{MOST_BYTES, Token, TokenKind};
 
 #[cfg(test)]

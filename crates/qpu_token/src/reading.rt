@@ -4,20 +4,13 @@ ghost use Rattle.qpu_token.specs.Tokens.{AreTokens, AreSpans};
 ghost use Rattle.qpu_token.specs.Faults.{IsFirstFault};
 ghost use Rattle.qpu_token.specs.Reading.{IsRead, IsPastLarge, end_here};
 
-use crate::fault::{AsmFault, AsmKind};
+use crate::fault::{AsmFault, AsmKind, NO_MEMORY};
 use crate::here::Here;
 use crate::piece::{Shape, piece_at};
 use crate::place::Place;
 use crate::token::{MOST_BYTES, Token, TokenKind};
 use crate::turn::{Turn, take_turn};
 use std::alloc::Global;
-
-/// Want of memory, which has no place.
-const NO_MEMORY: AsmFault = AsmFault {
-    kind: AsmKind::Memory,
-    line: 0,
-    column: 0,
-};
 
 /// The tokens of a text of at most `MOST_BYTES` bytes. The one error beside want of memory is the
 /// first fault: a byte that begins no token, or a number that is too large; in one line the former.

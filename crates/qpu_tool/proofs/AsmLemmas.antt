@@ -2,7 +2,7 @@
 use Rattle.std.proofs.Common.{◌≡◌, ◌≢◌, ◌⊎◌, inl, inr, ℕ, List, Result, Ok, Err, refl, ap}
 use Rattle.qpu_token.specs.declared.fault.AsmKind.TheVariants.{Memory}
 use Rattle.qpu_token.specs.declared.fault.AsmFault.{AsmFault}
-use Rattle.qpu_asm.specs.Answers.{no_memory}
+use Rattle.qpu_token.specs.Stops.{no_memory}
 use Rattle.qpu_asm.specs.Assembly.{IsAssembly, IsItsFault}
 use Rattle.qpu_asm.proofs.OneAssembly.{one_assembly}
 use Rattle.qpu_tool.specs.declared.answer.Answer.{Answer}

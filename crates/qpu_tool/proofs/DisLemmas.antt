@@ -2,7 +2,7 @@
 use Rattle.std.proofs.Common.{◌≡◌, ◌≢◌, ◌⊎◌, inl, inr, ℕ, List, Err, ap}
 use Rattle.qpu_token.specs.declared.fault.AsmKind.TheVariants.{Memory}
 use Rattle.qpu_token.specs.declared.fault.AsmFault.{AsmFault}
-use Rattle.qpu_asm.specs.Answers.{no_memory}
+use Rattle.qpu_token.specs.Stops.{no_memory}
 use Rattle.qpu_asm.specs.HexLines.{hex_words, IsHexFault}
 use Rattle.qpu_tool.specs.declared.answer.Answer.{Answer}
 use Rattle.qpu_tool.specs.declared.answer.Answer.TheVariants.{Lines, Refused}

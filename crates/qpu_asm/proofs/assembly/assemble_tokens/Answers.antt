@@ -1,5 +1,5 @@
 use Rattle.std.proofs.Common.{◌≡◌, sym, subst, Ok, ℕ, List}
-use Rattle.qpu_asm.specs.Answers.{StopsBy}
+use Rattle.qpu_token.specs.Stops.{StopsBy}
 use Rattle.qpu_asm.specs.Assembly.{encoding, IsAssembly, IsItsFault}
 use Rattle.qpu_asm.proofs.AnswerLemmas.{expansion_fault, words_due, stop_due}
 use Rattle.qpu_asm.proofs.assembly.assemble_tokens.Goals as goal

@@ -1,7 +1,7 @@
 use Rattle.std.proofs.Common.{◌≡◌, ◌∷◌, ◌-◌, length, take, drop, sym, ap, subst, ◌∙◌, Ok}
 use Rattle.std.proofs.lemmas.Result.{err_from_is_err_and}
 use Rattle.qpu_expr.specs.Deeds.{line_does}
-use Rattle.qpu_expr.specs.Leads.{StopsBy}
+use Rattle.qpu_token.specs.Stops.{StopsBy}
 use Rattle.qpu_expr.specs.Expansion.{run_within}
 use Rattle.qpu_expr.specs.Nesting.{is_deepest, below}
 use Rattle.qpu_expr.proofs.RunLemmas.{line_more, act_stopped, first_line, turn_more}

@@ -1,9 +1,9 @@
-use qpu_token::{AsmFault, AsmKind};
+use crate::fault::{AsmFault, NO_MEMORY};
 use std::alloc::AllocError;
 
-/// Why assembling stops early.
+/// Why a stage of the assembler stops early.
 #[derive(Clone, Copy)]
-pub(crate) enum Stop {
+pub enum Stop {
     /// A fault of the text.
     Fault(AsmFault),
     /// Want of memory.
@@ -12,7 +12,7 @@ pub(crate) enum Stop {
 
 impl From<AllocError> for Stop {
     ghost use Rattle.std.specs.Prelude.{◌≡◌};
-    ghost use Rattle.qpu_asm.specs.declared.stop.Stop.TheVariants.{Memory};
+    ghost use Rattle.qpu_token.specs.declared.stop.Stop.TheVariants.{Memory};
 
     ghost from_gives = { λ _ stop. stop ≡ Memory };
 
@@ -23,7 +23,7 @@ impl From<AllocError> for Stop {
 
 impl From<AsmFault> for Stop {
     ghost use Rattle.std.specs.Prelude.{◌≡◌};
-    ghost use Rattle.qpu_asm.specs.declared.stop.Stop.TheVariants.{Fault};
+    ghost use Rattle.qpu_token.specs.declared.stop.Stop.TheVariants.{Fault};
 
     ghost from_gives = { λ fault stop. stop ≡ Fault fault };
 
@@ -32,19 +32,12 @@ impl From<AsmFault> for Stop {
     }
 }
 
-/// Want of memory, which has no place.
-const NO_MEMORY: AsmFault = AsmFault {
-    kind: AsmKind::Memory,
-    line: 0,
-    column: 0,
-};
-
 impl Stop {
     ghost use Rattle.std.specs.Prelude.{◌≡◌};
-    ghost use Rattle.qpu_asm.specs.Answers.{answered};
+    ghost use Rattle.qpu_token.specs.Stops.{answered};
 
     /// What is answered.
-    pub(crate) fn fault(self) -> AsmFault
+    pub fn fault(self) -> AsmFault
         ensures { result ≡ answered self }
     {
         match self {

@@ -1,10 +1,10 @@
--- What a step of the assembler answers, against what is due. Want of memory is a free answer. This
--- project's own.
+-- What a step of the assembler answers, against what is due. Want of memory is a free answer, and says
+-- nothing of what is left. This project's own.
 use Rattle.std.specs.Prelude.{◌≡◌, Result, Ok, Err}
 use Rattle.qpu_token.specs.declared.fault.AsmFault.{AsmFault}
 use Rattle.qpu_token.specs.declared.fault.AsmKind.TheVariants as kind
-use Rattle.qpu_asm.specs.declared.stop.Stop.{Stop}
-use Rattle.qpu_asm.specs.declared.stop.Stop.TheVariants.{Fault, Memory}
+use Rattle.qpu_token.specs.declared.stop.Stop.{Stop}
+use Rattle.qpu_token.specs.declared.stop.Stop.TheVariants.{Fault, Memory}
 
 -- want of memory has no place
 abbrev pub no_memory : AsmFault
@@ -23,6 +23,6 @@ Answers due (Ok a) = due ≡ Ok a
 Answers due (Err stop) = StopsBy due stop
 
 -- the same of a call that changes what stands before it
-abbrev pub Leads : {A : Type 0} → Result A AsmFault → A → Result (Unit {0}) Stop → Type 0
-Leads due after (Ok u) = due ≡ Ok after
+abbrev pub Leads : {A B : Type 0} → Result A AsmFault → A → Result B Stop → Type 0
+Leads due after (Ok b) = due ≡ Ok after
 Leads due after (Err stop) = StopsBy due stop
