@@ -1,6 +1,6 @@
 -- The names among a text's tokens are names of the language.
 use Rattle.std.proofs.Common.{◌≡◌, ℕ, suc, ◌<◌, inl, inr, Bool, true, false, List, [], ◌∷◌, Option, Some, None, refl, arith}
-use Rattle.std.specs.Prelude.{◌==◌, ◌&&◌, nat_le, nat_eq, Contains, find, ◌⊎◌, option_map, IfSome, if◌then◌else◌}
+use Rattle.std.specs.Prelude.{◌==◌, ◌&&◌, nat_le, nat_eq, slice_index, Contains, find, ◌⊎◌, option_map, IfSome, if◌then◌else◌}
 use Rattle.std.specs.Cmp.Lexicographic.{pointwise}
 use Rattle.std.proofs.lemmas.Bool.Decides.{nat_tests}
 use Rattle.qpu_token.specs.declared.token.TokenKind.{TokenKind}
@@ -13,7 +13,8 @@ use Rattle.qpu_line.specs.declared.name.Register.{Register}
 use Rattle.qpu_line.specs.declared.name.Register.TheVariants.{RowA, RowB}
 use Rattle.qpu_line.specs.Spellings.{spelling}
 use Rattle.qpu_line.specs.Names.{row_number, register_of, found_in, row_or, name_of, IsRowName, IsNameOfLanguage}
-use Rattle.qpu_asm.specs.Placed.{sign_of, name_symbol, symbol_of, Labels, placed_token}
+use Rattle.qpu_line.specs.Symbols.{sign_of, name_symbol}
+use Rattle.qpu_asm.specs.Placed.{symbol_of, Labels, placed_token}
 use Rattle.qpu_asm.specs.Laws.{IsProperSymbol, IsProper}
 
 -- rows
@@ -99,7 +100,6 @@ name_proper None found = tt
 name_proper (Some n) found = found
 
 sign_proper : (byte : ℕ) → IsProperSymbol (sign_of byte)
-unfolding sign_of
 sign_proper byte = by_byte (byte == 44) (byte == 59) (byte == 58) (byte == 46) (byte == 45) (byte == 40) (byte == 41) (byte == 126) refl refl refl refl refl refl refl refl
   where
     by_byte : (a b c d e f g h : Bool) → (byte == 44) ≡ a → (byte == 59) ≡ b → (byte == 58) ≡ c → (byte == 46) ≡ d → (byte == 45) ≡ e → (byte == 40) ≡ f → (byte == 41) ≡ g → (byte == 126) ≡ h
@@ -118,7 +118,7 @@ symbol_proper : (text : List ℕ) (k : TokenKind) (token : Token) → token.kind
 unfolding symbol_of
 symbol_proper text kind.Name token e = rw e (name_proper (name_of (text_of text token)) (name_found (text_of text token)))
 symbol_proper text (kind.Number value) token e = rw e tt
-symbol_proper text kind.Punct token e = rw e (sign_proper _)
+symbol_proper text kind.Punct token e = rw e (sign_proper (slice_index (text_of text token) 0))
 symbol_proper text kind.LineEnd token e = rw e tt
 
 pub placed_proper : (text : List ℕ) (labels : Labels) (token : Token) → IsProper (placed_token text labels token)

@@ -1,7 +1,8 @@
 //! Tokens of a line, with what they are.
 ghost use Rattle.std.specs.Prelude.{◌≡◌, slice_index};
 ghost use Rattle.qpu_token.specs.Tokens.{text_of};
-ghost use Rattle.qpu_asm.specs.Placed.{sign_of, word_of, symbol_of};
+ghost use Rattle.qpu_line.specs.Symbols.{sign_of, word_of};
+ghost use Rattle.qpu_asm.specs.Placed.{symbol_of};
 
 use qpu_line::{Name, Symbol};
 use qpu_token::{Token, TokenKind};
@@ -34,7 +35,6 @@ fn first_of(word: &[u8]) -> u8
 }
 
 /// The sign with a first byte.
-#[tactic(auto, unfolding(crate::specs::Placed::sign_of))]
 fn sign_of(byte: u8) -> Symbol
     ensures { result ≡ sign_of byte }
 {

@@ -1,41 +1,22 @@
 -- This project's own: what the tokens of the disassembler's text are, as they are written: an expression
 -- isn't worked out, so a negative number is a sign and a number.
-use Rattle.std.specs.Prelude.{◌≡◌, ℕ, ◌==◌, List, [], ◌∷◌, ◌++◌, map, flat_map, slice_index, Option, Some, None, Result, Ok, Err, if◌then◌else◌}
+use Rattle.std.specs.Prelude.{◌≡◌, ℕ, List, [], ◌∷◌, ◌++◌, map, flat_map, slice_index, Option, Some, None, Result, Ok, Err}
 use Rattle.qpu_token.specs.declared.token.TokenKind.{TokenKind}
 use Rattle.qpu_token.specs.declared.token.TokenKind.TheVariants as kind
 use Rattle.qpu_token.specs.declared.token.Token.{Token}
 use Rattle.qpu_token.specs.declared.fault.AsmFault.{AsmFault}
 use Rattle.qpu_token.specs.Tokens.{AreTokens, text_of}
-use Rattle.qpu_line.specs.declared.name.Name.{Name}
 use Rattle.qpu_line.specs.declared.name.Name.TheVariants as name
 use Rattle.qpu_line.specs.declared.symbol.Symbol.{Symbol}
 use Rattle.qpu_line.specs.declared.symbol.Symbol.TheVariants as symbol
 use Rattle.qpu_line.specs.declared.instruction.Instruction.{Instruction}
-use Rattle.qpu_line.specs.Names.{name_of}
+use Rattle.qpu_line.specs.Symbols.{sign_of, word_of}
 use Rattle.qpu_line.specs.Canonical.{canonical_instruction}
 use Rattle.qpu_line.specs.Lines.{Figure, Decimal, Negative, Hexadecimal, Bit, Word, Number, Comma, Semicolon, Dot, Dash, Space, line_bits}
 
--- the sign with a first byte
-abbrev pub sign_of : ℕ → Symbol
-sign_of byte =
-    if byte == 44 then symbol.Comma
-    else if byte == 59 then symbol.Semicolon
-    else if byte == 58 then symbol.Colon
-    else if byte == 46 then symbol.Dot
-    else if byte == 45 then symbol.Minus
-    else if byte == 40 then symbol.Open
-    else if byte == 41 then symbol.Close
-    else if byte == 126 then symbol.Invert
-    else symbol.Binary
-
--- a name, of the language or not
-abbrev pub name_symbol : Option Name → Symbol
-name_symbol None = symbol.Unknown
-name_symbol (Some name) = symbol.Name name
-
 -- what a token is, by its kind and its bytes
 abbrev pub symbol_by : TokenKind → List ℕ → Symbol
-symbol_by kind.Name word = name_symbol (name_of word)
+symbol_by kind.Name word = word_of word
 symbol_by (kind.Number value) word = symbol.Number value
 symbol_by kind.Punct word = sign_of (slice_index word 0)
 symbol_by kind.LineEnd word = symbol.LineEnd

@@ -15,7 +15,8 @@ use Rattle.qpu_line.specs.declared.symbol.Symbol.TheVariants as symbol
 use Rattle.qpu_line.specs.declared.name.Register.{Register}
 use Rattle.qpu_line.specs.Spellings.{spelling}
 use Rattle.qpu_line.specs.Names.{found_in, row_or, name_of}
-use Rattle.qpu_dis.specs.Tokens.{name_symbol, symbol_by, symbol_of}
+use Rattle.qpu_line.specs.Symbols.{name_symbol}
+use Rattle.qpu_dis.specs.Tokens.{symbol_by, symbol_of}
 use Rattle.qpu_inverse.proofs.Readings.{token_of}
 
 -- the word of a name's token

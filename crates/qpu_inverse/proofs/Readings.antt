@@ -13,7 +13,8 @@ use Rattle.qpu_line.specs.declared.name.Name.{Name}
 use Rattle.qpu_line.specs.declared.symbol.Symbol.{Symbol}
 use Rattle.qpu_line.specs.declared.symbol.Symbol.TheVariants as symbol
 use Rattle.qpu_line.specs.Names.{name_of}
-use Rattle.qpu_dis.specs.Tokens.{sign_of, name_symbol, symbol_by, symbol_of}
+use Rattle.qpu_line.specs.Symbols.{sign_of, name_symbol}
+use Rattle.qpu_dis.specs.Tokens.{symbol_by, symbol_of}
 
 -- tokens by their symbols
 

@@ -10,5 +10,6 @@ pub mod Worded
 pub mod Both
 pub mod Spellings
 pub mod Names
+pub mod Symbols
 pub mod Lines
 pub mod Named
