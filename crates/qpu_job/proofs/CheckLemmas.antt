@@ -9,12 +9,10 @@ use Rattle.qpu_word.specs.Words.{numbers_of}
 use Rattle.qpu_flow.specs.Code.{AllInProfile}
 use Rattle.qpu_flow.proofs.CodeLemmas.{length_numbers}
 use Rattle.qpu_hazard.specs.declared.checked.CheckFault.TheVariants as check
-use Rattle.qpu_hazard.specs.Refusal.{NoneRefusable}
+use Rattle.qpu_hazard.specs.Refusal.{IsFirst, NoneRefusable}
 use Rattle.qpu_job.specs.declared.code.Code.{Code}
-use Rattle.qpu_job.specs.declared.fault.JobFault.{JobFault}
-use Rattle.qpu_job.specs.declared.fault.JobFault.TheVariants as fault
 use Rattle.qpu_job.specs.Programs.{codes_of}
-use Rattle.qpu_job.specs.Opening.{IsShort, IsCheckedFault, IsHazardOf}
+use Rattle.qpu_job.specs.Opening.{IsShort, IsChecked}
 
 abbrev numbers : Code → List ℕ
 numbers code = numbers_of code.words.items
@@ -55,24 +53,12 @@ pub none_left : (xs rest all : List (List ℕ)) → xs ++ rest ≡ all → lengt
 none_left xs [] all is none = sym (append-nil xs) ∙ is
 none_left xs (x ∷ rest) all is none = absurd (omega (arith, none))
 
--- one program of the profile is refused
-pub hazard_fails : (codes before rest : List (List ℕ)) (code : List ℕ) (e : JobFault) → before ++ code ∷ rest ≡ codes → All AllInProfile codes → All NoneRefusable before
-    → IsHazardOf (length before) code e → IsCheckedFault codes e
-hazard_fails codes before rest code (fault.Check program (check.Word at f)) is inside clean fails = absurd fails.1
-hazard_fails codes before rest code (fault.Check program (check.Hazard rule at told)) is inside clean fails =
-    rw fails.0 (
-      omega (arith, ap length is, length-append before (code ∷ rest)),
-      inside,
-      rw (← is, get_or-append_seam before code rest []) fails.1,
-      λ k d low high. rw (← is, get_or-append before (code ∷ rest) d k high) (clean k d high),
-    )
-hazard_fails codes before rest code (fault.Check program check.Memory) is inside clean fails = absurd fails
-hazard_fails codes before rest code (fault.Asm told) is inside clean fails = absurd fails
-hazard_fails codes before rest code fault.Memory is inside clean fails = tt
-hazard_fails codes before rest code (fault.Line at) is inside clean fails = absurd fails
-hazard_fails codes before rest code (fault.Size at) is inside clean fails = absurd fails
-hazard_fails codes before rest code (fault.Limit at) is inside clean fails = absurd fails
-hazard_fails codes before rest code (fault.Twice at) is inside clean fails = absurd fails
-hazard_fails codes before rest code (fault.Processor at) is inside clean fails = absurd fails
-hazard_fails codes before rest code (fault.NoProgram at) is inside clean fails = absurd fails
-hazard_fails codes before rest code (fault.Place at) is inside clean fails = absurd fails
+-- a program of the profile is refused, and none before it
+pub first_hazard : (codes before rest : List (List ℕ)) (code : List ℕ) (rule at told : ℕ) → before ++ code ∷ rest ≡ codes → All AllInProfile codes → All NoneRefusable before
+    → IsFirst code (record { at = at; rule = rule; before = told }) → IsChecked codes (length before) (check.Hazard rule at told)
+first_hazard codes before rest code rule at told is inside clean first = (
+  omega (arith, ap length is, length-append before (code ∷ rest)),
+  inside,
+  rw (← is, get_or-append_seam before code rest []) first,
+  λ k d low high. rw (← is, get_or-append before (code ∷ rest) d k high) (clean k d high),
+)

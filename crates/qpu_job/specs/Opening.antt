@@ -6,7 +6,6 @@ use Rattle.qpu_flow.specs.Code.{AllInProfile, IsFirstOutside}
 use Rattle.qpu_hazard.specs.declared.checked.CheckFault.{CheckFault}
 use Rattle.qpu_hazard.specs.declared.checked.CheckFault.TheVariants as check
 use Rattle.qpu_hazard.specs.Refusal.{IsFirst, NoneRefusable}
-use Rattle.qpu_hazard.specs.Faults.{IsHazardFault}
 use Rattle.qpu_machine.specs.Machine.{MachineState, machine_of}
 use Rattle.qpu_machine.specs.Views.{Started}
 use Rattle.qpu_job.specs.declared.job.Value.{Value}
@@ -69,13 +68,6 @@ abbrev pub IsCheckedFault : List (List ℕ) → JobFault → Type 0
 IsCheckedFault codes (fault.Check program refused) = IsChecked codes program refused
 IsCheckedFault codes fault.Memory = Unit {0}
 IsCheckedFault codes _ = ⊥
-
--- what is said of one program of the profile, where it is refused; want of memory is free
-abbrev pub IsHazardOf : ℕ → List ℕ → JobFault → Type 0
-IsHazardOf index code (fault.Check program check.Memory) = ⊥
-IsHazardOf index code (fault.Check program refused) = (program ≡ index) × IsHazardFault code refused
-IsHazardOf index code fault.Memory = Unit {0}
-IsHazardOf index code _ = ⊥
 
 -- the programs of a job are assembled, and one of them is refused
 pub record IsRefused (plan : Plan) (program : ℕ) (fault : CheckFault) : Type 0 where

@@ -1,10 +1,10 @@
 //! The programs of a job, checked.
-ghost use Rattle.std.specs.Prelude.{◌≡◌, ◌<◌, ◌≤◌, All, IfOk, IfErr, OnOk, length, ◌++◌, ◌∷◌, []};
+ghost use Rattle.std.specs.Prelude.{◌≡◌, ◌≤◌, All, IfOk, IfErr, OnOk, length};
 ghost use Rattle.qpu_flow.specs.Code.{AllInProfile};
 ghost use Rattle.qpu_hazard.specs.Refusal.{NoneRefusable};
 ghost use Rattle.qpu_job.specs.declared.job.TheConstants.{MOST_PROGRAMS};
 ghost use Rattle.qpu_job.specs.Programs.{codes_of};
-ghost use Rattle.qpu_job.specs.Opening.{IsShort, IsCheckedFault, IsHazardOf};
+ghost use Rattle.qpu_job.specs.Opening.{IsShort, IsCheckedFault};
 
 use crate::code::Code;
 use crate::fault::JobFault;
@@ -40,25 +40,6 @@ fn flows_of(alloc: Global, codes: &[Code]) -> Result<Vec<Flow>, JobFault>
     Ok(flows)
 }
 
-/// Judges a program over all paths, and puts it behind those before it. How many these are is its
-/// index.
-fn put_checked(alloc: Global, list: &mut Vec<Checked>, flow: Flow) -> Result<(), JobFault>
-    requires { length list.old.items < MOST_PROGRAMS }
-    ensures ok { OnOk result (list.new.items ≡ list.old.items ++ flow ∷ []) }
-    ensures clean { OnOk result (NoneRefusable flow) }
-    ensures err { IfErr result (λ fault. IsHazardOf (length list.old.items) flow fault) }
-{
-    let program = list.len() as u32;
-    match judge(alloc, flow) {
-        Ok(checked) => match list.push(checked) {
-            Ok(()) => Ok(()),
-            Err(_) => Err(JobFault::Memory),
-        },
-        Err(CheckFault::Memory) => Err(JobFault::Memory),
-        Err(fault) => Err(JobFault::Check { program, fault }),
-    }
-}
-
 /// Judges programs of the profile. The one error beside want of memory is the first hazard, of the
 /// first program with one.
 fn judge_all(alloc: Global, flows: Vec<Flow>) -> Result<Vec<Checked>, JobFault>
@@ -70,7 +51,19 @@ fn judge_all(alloc: Global, flows: Vec<Flow>) -> Result<Vec<Checked>, JobFault>
 {
     let mut list = Vec::new(alloc);
     for flow in flows {
-        put_checked(alloc, &mut list, flow)?;
+        let program = list.len() as u32;
+        let checked = match judge(alloc, flow) {
+            Ok(checked) => checked,
+            Err(CheckFault::Word(_, _)) => unreachable!(),
+            Err(CheckFault::Hazard { rule, at, before }) => {
+                let fault = CheckFault::Hazard { rule, at, before };
+                return Err(JobFault::Check { program, fault });
+            }
+            Err(CheckFault::Memory) => return Err(JobFault::Memory),
+        };
+        let Ok(()) = list.push(checked) else {
+            return Err(JobFault::Memory);
+        };
     }
     Ok(list)
 }
