@@ -139,11 +139,15 @@ fn an_input_that_is_no_text_is_refused(rt: HostRuntime) -> Result<(), Fail> {
 fn a_write_that_fails_cuts_the_words_off(rt: HostRuntime) -> Result<(), Fail> {
     let alloc = rt.alloc();
     let whole = b"0x100009e7009e7000\n".as_slice();
-    for call in 0..4u64 {
+    // The line is three writes: `0x`, the digits, and the line feed.
+    for call in 0..3u64 {
         let answer = answered(alloc, &ASM, b"nop\n", &[], &[call])?;
         assert!(rt; answer.status == Status::WriteFault, "call {call}");
         assert!(rt; whole.starts_with(&answer.text), "call {call}");
         assert!(rt; answer.text.len() < whole.len(), "call {call}");
     }
+    let answer = answered(alloc, &ASM, b"nop\n", &[], &[3])?;
+    assert!(rt; answer.status == Status::Done);
+    assert!(rt; answer.text.as_slice() == whole);
     Ok(())
 }
