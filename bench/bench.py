@@ -43,9 +43,36 @@ def loop_job(turns):
     return "\n".join(lines) + "\n"
 
 
-def record_of(job, items):
+def transfers_job(turns, setup, start, wait):
+    """One processor that starts a transfer and waits for it, seven instructions a turn."""
+    lines = ["qpujob 1", "memory 256", "limit 1000000", "program a"]
+    lines += [setup, f"ldi r0, {turns}", f":loop mov {start}, r1", f"mov -, {wait}", "sub.setf r0, r0, 1"]
+    lines += ["brr.anynz -, :loop", "nop", "nop", "nop", "nop; thrend", "nop", "nop", "endprogram", "start 0 a 0"]
+    return "\n".join(lines) + "\n"
+
+
+def loads_job(turns):
+    """Loads of sixteen rows of sixteen words."""
+    return transfers_job(turns, "ldi vr_setup, 1 << 31 | 3 << 24 | 1 << 12", "vr_addr", "vpm_ld_wait")
+
+
+def stores_job(turns):
+    """Stores of sixteen rows of sixteen words."""
+    return transfers_job(turns, "ldi vw_setup, 2 << 30 | 16 << 23 | 16 << 16 | 1 << 14", "vw_addr", "vpm_st_wait")
+
+
+def vectors_job(turns):
+    """One processor that writes a vector of words and reads one, eight instructions a turn."""
+    lines = ["qpujob 1", "memory 16", "limit 1000000", "program a"]
+    lines += [f"ldi r0, {turns}", "ldi vw_setup, 0x1a00", ":loop ldi vr_setup, 0x101a00", "mov vpm, r0"]
+    lines += ["mov r2, vpm", "sub.setf r0, r0, 1", "brr.anynz -, :loop", "nop", "nop", "nop"]
+    lines += ["nop; thrend", "nop", "nop", "endprogram", "start 0 a 0"]
+    return "\n".join(lines) + "\n"
+
+
+def record_of(job, items, version=2):
     """The record of a job and of items."""
-    return f"qpurecord 1\njob {len(job)}\n{job}schedule\n{items}endrecord\n"
+    return f"qpurecord {version}\njob {len(job)}\n{job}schedule\n{items}endrecord\n"
 
 
 def record_of_steps(turns):
@@ -54,9 +81,9 @@ def record_of_steps(turns):
     return record_of(loop_job(turns), rounds * (5 * turns + 4))
 
 
-def record_of_stretches(turns):
+def record_of_stretches(turns, version=2):
     """A record of the same job whose processors go one after another, one item each."""
-    return record_of(loop_job(turns), "".join(f"q {q} {5 * turns + 4}\n" for q in range(12)))
+    return record_of(loop_job(turns), "".join(f"q {q} {5 * turns + 4}\n" for q in range(12)), version)
 
 
 def words(count):
@@ -109,6 +136,14 @@ def main():
         row("replay of its record", ["replay"], record_of_stretches(turns), 60 * turns, "instruction")
     for turns in (22_500, 45_000, 90_000, 180_000):
         row("replay, one step an item", ["replay"], record_of_steps(turns), 60 * turns, "item")
+    for turns in (25_000, 50_000, 100_000, 199_999):
+        row("replay of a version 1 record", ["replay"], record_of_stretches(turns, 1), 60 * turns, "instruction")
+    for turns in (12_500, 25_000, 50_000, 100_000):
+        row("run -w 0, loads of 16 rows", ["run", "-w", "0"], loads_job(turns), turns, "load")
+    for turns in (12_500, 25_000, 50_000, 100_000):
+        row("run -w 0, stores of 16 rows", ["run", "-w", "0"], stores_job(turns), turns, "store")
+    for turns in (12_500, 25_000, 50_000, 100_000):
+        row("run -w 0, vectors of words", ["run", "-w", "0"], vectors_job(turns), 2 * turns, "vector")
     for count in (51_200, 102_400, 204_800, 409_600):
         row("dis, a word in each line", ["dis"], words(count), count, "word")
     for count in (512, 1_024, 2_048, 4_096):

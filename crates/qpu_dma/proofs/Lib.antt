@@ -1,2 +1,5 @@
+pub mod FitLemmas
 pub mod OnceLemmas
-pub mod PlanLemmas
+pub mod RangeLemmas
+pub mod SetupLemmas
+pub mod SpotLemmas

@@ -1,80 +1,100 @@
 -- In one transfer that may start no place is written twice.
-use Rattle.std.proofs.Common.{◌≡◌, ℕ, ◌+◌, ◌*◌, ◌/◌, ◌%◌, ◌<◌, ◌≤◌, Bool, true, false, IsTrue, refl, arith, if◌then◌else◌, ◌⊎◌, inl, inr}
-use Rattle.std.proofs.lemmas.Bool.Decides.{nat_tests}
-use Rattle.std.proofs.lemmas.Nat.{div_below, mod_below, div-add-mod', same_from_place}
-use Rattle.qpu_dma.specs.Transfers.{TransferPlan, load_plan, store_plan, fits}
-use Rattle.qpu_dma.specs.Once.{pair_count, pair_of, cell_of, LoadsEachCellOnce, StoresEachWordOnce}
-use Rattle.qpu_dma.proofs.PlanLemmas.{LiesInside, fitting_inside, fitting_address, fitting_step}
-
--- two numbers of one row and one element are one
-same_number : (m n w : ℕ) → m / w ≡ n / w → m % w ≡ n % w → m ≡ n
-same_number m n w rows elements = cc (div-add-mod' m w, div-add-mod' n w)
+use Rattle.std.proofs.Common.{◌≡◌, ℕ, ◌+◌, ◌*◌, ◌/◌, ◌%◌, ◌<◌, ◌≤◌, Bool, true, false, IsTrue, arith, if◌then◌else◌, ◌⊎◌, inl, inr}
+use Rattle.std.proofs.lemmas.Nat.{same_from_place}
+use Rattle.qpu_bytes.specs.declared.size.Size.{Size}
+use Rattle.qpu_bytes.specs.declared.size.Size.TheVariants.{Byte, Half, Word}
+use Rattle.qpu_bytes.specs.Elements.{bytes_in, in_word, byte_place}
+use Rattle.qpu_dma.specs.declared.direction.Direction.TheVariants.{Load, Store}
+use Rattle.qpu_dma.specs.Transfers.{TransferState, transfer_of, words_along, byte_along, spot_at, pair_at, fits}
+use Rattle.qpu_dma.specs.Once.{EachPlaceOnce}
+use Rattle.qpu_dma.proofs.SpotLemmas.{LiesInside, byte_low}
+use Rattle.qpu_dma.proofs.SetupLemmas.{rows_apart, row_begins}
+use Rattle.qpu_dma.proofs.FitLemmas.{fitting_inside, fitting_step, whole_number}
 
 -- equal products of a number that isn't 0
 same_factor : (a b p : ℕ) → 1 ≤ p → a * p ≡ b * p → a ≡ b
 same_factor a b p some same = (same_from_place a 0 b 0 p (omega arith) (omega arith) (omega arith)).0
 
--- equal cells come of one row and one element
-cells_apart : (upright : Bool) (r c j i k l p : ℕ) → 1 ≤ p
-    → (if upright then r + j else r + k * p) ≡ (if upright then r + i else r + l * p)
-    → (if upright then c + k * p else c + j) ≡ (if upright then c + l * p else c + i)
+-- elements of a row at one byte of one word are one
+strand_apart : (laned : Bool) (size : Size) (first j i : ℕ)
+    → (if laned then j else (first + j) / in_word size) ≡ (if laned then i else (first + i) / in_word size)
+    → (if laned then bytes_in size * first else bytes_in size * ((first + j) % in_word size)) ≡ (if laned then bytes_in size * first else bytes_in size * ((first + i) % in_word size))
+    → j ≡ i
+strand_apart true size first j i words bytes = words
+strand_apart false Byte first j i words bytes = omega arith
+strand_apart false Half first j i words bytes = omega arith
+strand_apart false Word first j i words bytes = omega arith
+
+-- words of one row and column come of one row, so many words along
+cells_apart : (upright : Bool) (r c v w k l p : ℕ) → 1 ≤ p
+    → (if upright then r + v else r + k * p) ≡ (if upright then r + w else r + l * p)
+    → (if upright then c + k * p else c + v) ≡ (if upright then c + l * p else c + w)
+    → (k ≡ l) × (v ≡ w)
+cells_apart true r c v w k l p some rows columns = (same_factor k l p some (omega arith), omega arith)
+cells_apart false r c v w k l p some rows columns = (same_factor k l p some (omega arith), omega arith)
+
+-- equal byte places have one row, one column and one byte
+places_apart : (r c b s d e : ℕ) → c < 16 → d < 16 → b < 4 → e < 4 → byte_place r c b ≡ byte_place s d e → (r ≡ s) × (c ≡ d) × (b ≡ e)
+places_apart r c b s d e low_c low_d low_b low_e same = (omega arith, omega arith, omega arith)
+
+-- elements of a transfer that may start at one place of the VPM are one
+one_place : (t : TransferState) (words k j l i : ℕ) → 1 ≤ t.vpm_pitch → t.first < in_word t.size → IsTrue (fits t words)
+    → k < t.rows → l < t.rows → j < t.row_length → i < t.row_length
+    → (pair_at t k j).place ≡ (pair_at t l i).place → (k ≡ l) × (j ≡ i)
+one_place t words k j l i apart begins may low_k low_l low_j low_i same =
+    let a : LiesInside words (spot_at t k j) = fitting_inside t words k j may low_k low_j in
+    let b : LiesInside words (spot_at t l i) = fitting_inside t words l i may low_l low_i in
+    let cell = places_apart (spot_at t k j).row (spot_at t k j).column (byte_along t j) (spot_at t l i).row (spot_at t l i).column (byte_along t i)
+    a.column b.column (byte_low t j begins) (byte_low t i begins) same in
+    let sides = cells_apart t.vertical t.row t.column (words_along t j) (words_along t i) k l t.vpm_pitch apart cell.0 cell.1 in
+    (sides.0, strand_apart t.laned t.size t.first j i sides.1 cell.2)
+
+-- a load writes no place of the VPM twice
+once_of_load : (setup step address words k j l i : ℕ)
+    → IsTrue (fits (transfer_of Load setup step address) words)
+    → k < (transfer_of Load setup step address).rows → l < (transfer_of Load setup step address).rows
+    → j < (transfer_of Load setup step address).row_length → i < (transfer_of Load setup step address).row_length
+    → (pair_at (transfer_of Load setup step address) k j).place ≡ (pair_at (transfer_of Load setup step address) l i).place
     → (k ≡ l) × (j ≡ i)
-cells_apart true r c j i k l p some rows columns = (same_factor k l p some (omega arith), omega arith)
-cells_apart false r c j i k l p some rows columns = (same_factor k l p some (omega arith), omega arith)
+once_of_load setup step address words k j l i =
+    one_place (transfer_of Load setup step address) words k j l i (rows_apart Load setup step address) (row_begins Load setup step address)
 
--- two pairs of a plan that may start with one cell are one pair
-one_cell : (plan : TransferPlan) (words m n : ℕ) → 1 ≤ plan.vpm_pitch → IsTrue (fits plan words) → m < pair_count plan → n < pair_count plan
-    → cell_of (pair_of plan m) ≡ cell_of (pair_of plan n) → m ≡ n
-one_cell plan words m n some may low high same =
-    let a : LiesInside words (pair_of plan m) = fitting_inside plan words m may low in
-    let b : LiesInside words (pair_of plan n) = fitting_inside plan words n may high in
-    let rows : (pair_of plan m).row ≡ (pair_of plan n).row = omega (arith, a.column, b.column, same) in
-    let columns : (pair_of plan m).column ≡ (pair_of plan n).column = omega (arith, a.column, b.column, same) in
-    let apart = cells_apart plan.vertical plan.row plan.column (m % plan.row_length) (n % plan.row_length) (m / plan.row_length) (n / plan.row_length) plan.vpm_pitch some rows columns in
-    same_number m n plan.row_length apart.0 apart.1
+-- equal addresses of rows a whole stride apart
+address_apart : (size : Size) (a w q k j l i : ℕ)
+    → a + k * (bytes_in size * w + bytes_in size * q) + bytes_in size * j ≡ a + l * (bytes_in size * w + bytes_in size * q) + bytes_in size * i
+    → k * (w + q) + j ≡ l * (w + q) + i
+address_apart Byte a w q k j l i same = omega arith
+address_apart Half a w q k j l i same = omega arith
+address_apart Word a w q k j l i same = omega arith
 
--- a load writes no cell of the VPM twice
-pub loads_once : LoadsEachCellOnce
-unfolding load_plan
-loads_once t words m n may low high differ = λ same.
-    differ (one_cell (load_plan t) words m n (grind (arith, nat_tests)) may low high same)
-
--- the word of an aligned place, by words
-word_is : (a s w k j : ℕ) → a % 4 ≡ 0 → (a + k * (4 * w + 4 * s) + 4 * j) / 4 ≡ a / 4 + (k * (w + s) + j)
-word_is a s w k j aligned = omega arith
-
--- equal words of aligned rows come of one row and one element
-words_apart : (a s q w k j l i : ℕ) → a % 4 ≡ 0 → s ≡ 4 * q → j < w → i < w
-    → (a + k * (4 * w + s) + 4 * j) / 4 ≡ (a + l * (4 * w + s) + 4 * i) / 4 → (k ≡ l) × (j ≡ i)
-words_apart a s q w k j l i aligned e within also same =
-    let first : (a + k * (4 * w + s) + 4 * j) / 4 ≡ a / 4 + (k * (w + q) + j) = rw e (word_is a q w k j aligned) in
-    let second : (a + l * (4 * w + s) + 4 * i) / 4 ≡ a / 4 + (l * (w + q) + i) = rw e (word_is a q w l i aligned) in
-    same_from_place k j l i (w + q) (omega arith) (omega arith) (omega arith)
-
--- the same of a single row
-words_of_row : (a p k j l i : ℕ) → a % 4 ≡ 0 → k ≡ 0 → l ≡ 0 → (a + k * p + 4 * j) / 4 ≡ (a + l * p + 4 * i) / 4 → (k ≡ l) × (j ≡ i)
-words_of_row a p k j l i aligned first second same = (omega arith, let bare = rw (first, second) at same in omega arith)
+-- equal addresses of a single row
+row_apart : (size : Size) (a p k j l i : ℕ) → k ≡ 0 → l ≡ 0 → a + k * p + bytes_in size * j ≡ a + l * p + bytes_in size * i → j ≡ i
+row_apart Byte a p k j l i first second same = let bare = rw (first, second) at same in omega arith
+row_apart Half a p k j l i first second same = let bare = rw (first, second) at same in omega arith
+row_apart Word a p k j l i first second same = let bare = rw (first, second) at same in omega arith
 
 -- both
-words_of_pairs : (a s rows w k j l i : ℕ) → a % 4 ≡ 0 → (rows < 2) ⊎ (s % 4 ≡ 0) → k < rows → l < rows → j < w → i < w
-    → (a + k * (4 * w + s) + 4 * j) / 4 ≡ (a + l * (4 * w + s) + 4 * i) / 4 → (k ≡ l) × (j ≡ i)
-words_of_pairs a s rows w k j l i aligned (inl few) low high within also same =
-    words_of_row a (4 * w + s) k j l i aligned (omega arith) (omega arith) same
-words_of_pairs a s rows w k j l i aligned (inr steps) low high within also same =
-    words_apart a s (s / 4) w k j l i aligned (omega arith) within also same
+one_address : (size : Size) (a s rows w k j l i : ℕ) → (rows < 2) ⊎ (s % bytes_in size ≡ 0) → k < rows → l < rows → j < w → i < w
+    → a + k * (bytes_in size * w + s) + bytes_in size * j ≡ a + l * (bytes_in size * w + s) + bytes_in size * i → (k ≡ l) × (j ≡ i)
+one_address size a s rows w k j l i (inl few) low_k low_l low_j low_i same =
+    (omega arith, row_apart size a (bytes_in size * w + s) k j l i (omega arith) (omega arith) same)
+one_address size a s rows w k j l i (inr steps) low_k low_l low_j low_i same =
+    let bare = rw (whole_number size s steps) at same in
+    same_from_place k j l i (w + s / bytes_in size) (omega arith) (omega arith) (address_apart size a w (s / bytes_in size) k j l i bare)
 
--- two pairs of a plan that may start with one word are one pair
-one_word : (plan : TransferPlan) (words m n : ℕ) → 1 ≤ plan.row_length → plan.pitch ≡ 4 * plan.row_length + plan.aligned → IsTrue (fits plan words)
-    → m < pair_count plan → n < pair_count plan → (pair_of plan m).word ≡ (pair_of plan n).word → m ≡ n
-one_word plan words m n some pitch may low high same =
-    let apart = words_of_pairs plan.address plan.aligned plan.rows plan.row_length (m / plan.row_length) (m % plan.row_length) (n / plan.row_length) (n % plan.row_length)
-    (fitting_address plan words may) (fitting_step plan words may)
-    (div_below m plan.row_length plan.rows (omega arith) low) (div_below n plan.row_length plan.rows (omega arith) high)
-    (mod_below m plan.row_length (omega arith)) (mod_below n plan.row_length (omega arith)) (rw pitch at same) in
-    same_number m n plan.row_length apart.0 apart.1
+-- and a store no address twice
+once_of_store : (setup step address words k j l i : ℕ)
+    → IsTrue (fits (transfer_of Store setup step address) words)
+    → k < (transfer_of Store setup step address).rows → l < (transfer_of Store setup step address).rows
+    → j < (transfer_of Store setup step address).row_length → i < (transfer_of Store setup step address).row_length
+    → (pair_at (transfer_of Store setup step address) k j).at ≡ (pair_at (transfer_of Store setup step address) l i).at
+    → (k ≡ l) × (j ≡ i)
+unfolding transfer_of
+once_of_store setup step address words k j l i may =
+    one_address (transfer_of Store setup step address).size address step (transfer_of Store setup step address).rows (transfer_of Store setup step address).row_length k j l i
+    (fitting_step (transfer_of Store setup step address) words may)
 
--- a store writes no word of memory twice
-pub stores_once : StoresEachWordOnce
-unfolding store_plan
-stores_once t words m n may low high differ = λ same.
-    differ (one_word (store_plan t) words m n (grind (arith, nat_tests)) refl may low high same)
+-- whichever way it goes
+pub each_place_once : EachPlaceOnce
+each_place_once Load = once_of_load
+each_place_once Store = once_of_store

@@ -1,3 +1,4 @@
+pub mod Moves
 pub mod Once
-pub mod Places
+pub mod States
 pub mod Transfers

@@ -1,7 +1,6 @@
-ghost use Rattle.qpu_dma.specs.Once.{LoadsEachCellOnce, StoresEachWordOnce};
+ghost use Rattle.qpu_dma.specs.Once.{EachPlaceOnce};
 
-/// A law: a load that may start writes no cell of the VPM twice, and a store no word of memory.
+/// A law: in a transfer that may start no place is written twice, whichever way it goes.
 pub fn each_place_once()
-    ensures load { LoadsEachCellOnce }
-    ensures store { StoresEachWordOnce }
+    ensures { EachPlaceOnce }
 {}

@@ -1,37 +1,37 @@
-//! DMA transfers: which words of memory and which cells of the VPM one transfer pairs, and when it
-//! may start.
+//! DMA transfers: which elements of memory and of the VPM one transfer pairs, when it may start, and
+//! what is left of it after a row.
 //!
-//! A plan is made of a setup, a pitch or stride, an address and the number of words of memory. It
-//! is there only where the transfer may start, so all its pairs can be moved with no further test.
+//! A transfer is made of a setup, a pitch or stride, a byte address and the number of words of
+//! memory. It is there only where it may start, so all its rows can be moved with no further test.
 //! It holds no memory and no VPM.
 #![tactic(auto)]
 
 mod bits;
+mod decoding;
+mod direction;
 mod laws;
-mod load;
 mod places;
-mod store;
 mod transfer;
 
+pub use direction::Direction;
 pub use laws::each_place_once;
-pub use load::LoadPlan;
-pub use store::StorePlan;
+use qpu_bytes::Size;
 pub use transfer::Transfer;
 
-/// One word of a transfer.
+/// One element of a transfer.
 #[derive(Clone, Copy, Debug, PartialEq, Eq)]
 pub struct Pair {
-    /// The index of the word in memory.
-    pub word: u32,
-    /// The VPM row.
-    pub row: u32,
-    /// The column of the row.
-    pub column: u32,
+    /// Its byte address in memory.
+    pub at: u32,
+    /// Its byte place in the VPM: byte n is byte n mod 4, from the low end, of VPM word n div 4.
+    pub place: u32,
+    /// Its size.
+    pub size: Size,
 }
 
-/// A transfer may not start: some place of it lies outside the VPM or memory, or its address is no
-/// multiple of four bytes, or it has more than one row and its pitch (of a store: its stride) is no
-/// multiple of four bytes.
+/// A transfer may not start: some element of it lies outside the VPM or memory, or its address is no
+/// multiple of the elements' size, or it has more than one row and its pitch (of a store: its
+/// stride) is no multiple of the size.
 #[derive(Clone, Copy, Debug, PartialEq, Eq)]
 pub struct TransferOut;
 

@@ -9,7 +9,8 @@ use Rattle.std.proofs.lemmas.List.Elements.{All-nil, All-cons}
 use Rattle.std.proofs.lemmas.List.Sums.{fails_before_first}
 use Rattle.qpu_word.proofs.ProfileLemmas.{every_row}
 use Rattle.qpu_job.specs.declared.job.Value.{Value}
-use Rattle.qpu_job.specs.declared.job.TheConstants.{MOST_MEMORY, MOST_PROGRAMS, MOST_TEXT}
+use Rattle.qpu_word.specs.declared.code.TheConstants.{MEMORY_WORDS}
+use Rattle.qpu_job.specs.declared.job.TheConstants.{MOST_PROGRAMS, MOST_TEXT}
 use Rattle.qpu_job.specs.declared.reason.Reason.{Reason}
 use Rattle.qpu_job.specs.declared.reason.Reason.TheVariants as cause
 use Rattle.qpu_job.specs.declared.stage.Stage.{Stage}
@@ -24,7 +25,7 @@ use Rattle.qpu_text.proofs.LineLemmas.{none_first}
 
 -- a size of memory
 abbrev pub IsSize : ℕ → Type 0
-IsSize words = (0 < words) × (words ≤ MOST_MEMORY)
+IsSize words = (0 < words) × (words ≤ MEMORY_WORDS)
 
 -- values come behind the limit, and memory's size before
 abbrev pub HasMemory : Stage → Plan → Type 0

@@ -2,8 +2,8 @@
 -- that does. This project's own.
 use Rattle.std.specs.Prelude.{ℕ, ◌+◌, ◌/◌, ◌%◌, ◌==◌, ◌||◌, Bool, true, false, not, nat_lt, nat_le, List, [], ◌∷◌, length, Option, find, is_some, is_none}
 use Rattle.std.specs.List.{list_any}
-use Rattle.qpu_job.specs.declared.job.TheConstants.{MOST_MEMORY, MOST_PROGRAMS}
-use Rattle.qpu_word.specs.declared.code.TheConstants.{WORD_BYTES, PROCESSORS, LIMIT_MOST}
+use Rattle.qpu_job.specs.declared.job.TheConstants.{MOST_PROGRAMS}
+use Rattle.qpu_word.specs.declared.code.TheConstants.{WORD_BYTES, PROCESSORS, LIMIT_MOST, MEMORY_WORDS}
 use Rattle.qpu_job.specs.declared.fault.JobFault.{JobFault}
 use Rattle.qpu_job.specs.declared.fault.JobFault.TheVariants as fault
 use Rattle.qpu_job.specs.declared.reason.Reason.{Reason}
@@ -25,7 +25,7 @@ stands stage Empty = true
 stands stage shape = false
 
 unfoldable pub has_wrong_size : Shape → Bool
-has_wrong_size (Memory words) = (words == 0) || nat_lt MOST_MEMORY words
+has_wrong_size (Memory words) = (words == 0) || nat_lt MEMORY_WORDS words
 has_wrong_size shape = false
 
 unfoldable pub is_too_much : Above → Shape → Bool

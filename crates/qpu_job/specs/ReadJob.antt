@@ -1,10 +1,10 @@
 -- What each job that was read keeps: the bounds on its parts. This project's own.
 use Rattle.std.specs.Prelude.{◌≡◌, ℕ, ◌<◌, ◌≤◌, ◌&&◌, Bool, true, not, nat_eq, List, [], ◌∷◌, length, map, All, bytes_eq}
-use Rattle.qpu_word.specs.declared.code.TheConstants.{PROCESSORS, LIMIT_MOST}
+use Rattle.qpu_word.specs.declared.code.TheConstants.{PROCESSORS, LIMIT_MOST, MEMORY_WORDS}
 use Rattle.std.specs.List.{list_any}
 use Rattle.qpu_machine.specs.declared.start.Start.{Start}
 use Rattle.qpu_job.specs.declared.job.Value.{Value}
-use Rattle.qpu_job.specs.declared.job.TheConstants.{MOST_MEMORY, MOST_PROGRAMS, MOST_TEXT}
+use Rattle.qpu_job.specs.declared.job.TheConstants.{MOST_PROGRAMS, MOST_TEXT}
 use Rattle.qpu_job.specs.Words.{is_name}
 use Rattle.qpu_job.specs.Plan.{Plan, Program}
 
@@ -33,7 +33,7 @@ pub record IsStart (programs : ℕ) (start : Start) : Type 0 where
 -- what a job keeps
 pub record IsReadJob (plan : Plan) : Type 0 where
   pub some_memory : 0 < plan.words
-  pub most_memory : plan.words ≤ MOST_MEMORY
+  pub most_memory : plan.words ≤ MEMORY_WORDS
   pub limit : plan.limit ≤ LIMIT_MOST
   pub values : All (λ (value : Value). value.at < plan.words) plan.values
   pub few_programs : length plan.programs ≤ MOST_PROGRAMS

@@ -7,12 +7,12 @@ ghost use Rattle.qpu_job.specs.Above.{above_of};
 ghost use Rattle.qpu_job.specs.Faults.{stands, has_wrong_size, is_too_much, is_twice, is_no_processor, is_no_program, is_no_place, first_reason};
 
 use crate::above::{Above, index_of};
-use crate::job::{MOST_MEMORY, MOST_PROGRAMS};
+use crate::job::MOST_PROGRAMS;
 use crate::reason::Reason;
 use crate::shape::Shape;
 use crate::stage::Stage;
 use qpu_machine::Start;
-use qpu_word::code::{LIMIT_MOST, PROCESSORS, WORD_BYTES};
+use qpu_word::code::{LIMIT_MOST, MEMORY_WORDS, PROCESSORS, WORD_BYTES};
 
 impl Above {
     /// Why a line of this shape fails: the first of the causes that hold.
@@ -109,7 +109,7 @@ fn has_wrong_size(shape: &Shape<'_>) -> bool
     ensures { result ≡ has_wrong_size (said shape.now) }
 {
     match shape {
-        Shape::Memory(words) => *words == 0 || MOST_MEMORY < *words,
+        Shape::Memory(words) => *words == 0 || MEMORY_WORDS < *words,
         _ => false,
     }
 }

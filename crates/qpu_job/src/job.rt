@@ -2,9 +2,6 @@
 
 use qpu_machine::Start;
 
-/// Words of the largest memory.
-pub const MOST_MEMORY: u32 = 1_048_576;
-
 /// How many programs a job has at most.
 pub const MOST_PROGRAMS: usize = 16;
 

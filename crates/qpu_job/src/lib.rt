@@ -25,7 +25,7 @@ mod stage;
 mod word;
 
 pub use fault::JobFault;
-pub use job::{Job, MOST_MEMORY, MOST_NAME, MOST_PROGRAMS, MOST_TEXT, ProgramText, Value};
+pub use job::{Job, MOST_NAME, MOST_PROGRAMS, MOST_TEXT, ProgramText, Value};
 pub use laws::{clean_jobs_are_accepted, one_refusal, read_jobs_may_open, reads_the_grammar};
 pub use making::make_machine;
 pub use reading::read_job;

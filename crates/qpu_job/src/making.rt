@@ -2,7 +2,7 @@
 ghost use Rattle.std.specs.Prelude.{◌≡◌, ◌<◌, ◌≤◌, All, IfOk, IfErr, fold, length, replicate};
 ghost use Rattle.std.specs.Arc.{arc_value};
 ghost use Rattle.qpu_job.specs.declared.job.Value.{Value as ValueOf};
-ghost use Rattle.qpu_job.specs.declared.job.TheConstants.{MOST_MEMORY};
+ghost use Rattle.qpu_word.specs.declared.code.TheConstants.{MEMORY_WORDS};
 ghost use Rattle.qpu_job.specs.Plan.{plan_of};
 ghost use Rattle.qpu_job.specs.ReadJob.{IsReadJob};
 ghost use Rattle.qpu_job.specs.Opening.{with_value, IsMakeFault, Opens};
@@ -25,7 +25,7 @@ const PROCESSORS: usize = code::PROCESSORS as usize;
 /// So many words, with these values: of two for one word the later stands.
 fn memory_of(alloc: Global, words: u32, values: &[Value]) -> Result<Memory, NoMemory>
     requires some { 0 < words }
-    requires most { words ≤ MOST_MEMORY }
+    requires most { words ≤ MEMORY_WORDS }
     requires inside { All (λ (value : ValueOf). value.at < words) values.now }
     ensures { IfOk result (λ memory. memory ≡ fold with_value (replicate words 0) values.now) }
 {

@@ -12,7 +12,7 @@ use Rattle.qpu_shared.specs.Instruction.{is_running, instruction, pending_of}
 use Rattle.qpu_machine.specs.declared.actor.Actor.TheVariants.{Exec, Load, Store, Fetch}
 use Rattle.qpu_machine.specs.declared.conclusion.Ending.TheVariants.{Done}
 use Rattle.qpu_machine.specs.declared.start.Start.{Start}
-use Rattle.qpu_shared.specs.Moves.{unit_looks, load_moved, store_moved, fetch_moved}
+use Rattle.qpu_shared.specs.Moves.{unit_looks, row_moved, fetch_moved}
 use Rattle.qpu_machine.specs.Machine.{MachineState, machine_of, after_step}
 use Rattle.qpu_machine.specs.Ending.{IsFinal, ending_of}
 use Rattle.qpu_machine.proofs.RunLemmas.{Ran, one_more, IsAtLocal, local_step, local_enabled}
@@ -58,7 +58,7 @@ no_looks unit = rw (same_either (unit == 0)) (same_either (nat_lt unit TMU_UNITS
 
 -- where processor 0 has ended, nothing can move
 pub final_alone : (memory : List ℕ) (limit : ℕ) (code : List ℕ) (p : ProcessorState) → p.halt ≡ Ended → IsFinal (alone memory limit code p)
-unfolding after_step instruction load_moved store_moved fetch_moved
+unfolding after_step instruction row_moved fetch_moved
 final_alone memory limit code p ended (Exec zero) = rw ended refl
 final_alone memory limit code p ended (Exec (suc q)) = rw (at_default {A = Option ProcessorState} 11 q None) refl
 final_alone memory limit code p ended (Load q) = rw (nobody_pending memory q) refl

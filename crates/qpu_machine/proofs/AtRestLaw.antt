@@ -6,6 +6,7 @@ use Rattle.qpu_word.specs.declared.word.Fields.{Fields}
 use Rattle.qpu_word.specs.declared.state.Halt.{Halt}
 use Rattle.qpu_word.specs.declared.state.Halt.TheVariants.{Going, Ended, Faulted}
 use Rattle.qpu_word.specs.Words.{fields_of, one_if}
+use Rattle.qpu_dma.specs.Transfers.{TransferState}
 use Rattle.qpu_word.specs.Processor.{ProcessorState}
 use Rattle.qpu_tmu.specs.declared.look_up.LookUp.{LookUp}
 use Rattle.qpu_tmu.specs.Looks.{is_waiting, next_look, oldest_words}
@@ -17,7 +18,7 @@ use Rattle.qpu_shared.specs.Moves.{unit_looks}
 use Rattle.qpu_machine.specs.declared.actor.Actor.TheVariants.{Exec, Load, Store, Fetch}
 use Rattle.qpu_machine.specs.Machine.{MachineState, processor_of, words_of}
 use Rattle.qpu_machine.specs.Sound.{IsSoundMachine}
-use Rattle.qpu_machine.specs.Bound.{waiting, moves_pending}
+use Rattle.qpu_machine.specs.Bound.{rows_left, waiting, moves_pending}
 use Rattle.qpu_machine.specs.Ending.{IsFinal}
 use Rattle.qpu_machine.specs.AtRest.{is_of_others, FinalIsAtRest, RunsOutAtLimit}
 use Rattle.qpu_machine.proofs.MovedLemmas.{some_load, some_store, some_fetch}
@@ -55,10 +56,14 @@ looks_fetched_0 m q final = all_fetched _ (no_fetch m q 0 final)
 looks_fetched_1 : (m : MachineState) (q : ℕ) → IsFinal m → waiting (pending_of m.shared q).looks.looks1 ≡ 0
 looks_fetched_1 m q final = all_fetched _ (no_fetch m q 1 final)
 
+no_rows : (transfer : Option TransferState) → is_some transfer ≡ false → rows_left transfer ≡ 0
+no_rows None none = refl
+no_rows (Some t) none = absurd (cc)
+
 no_moves : (m : MachineState) (q : ℕ) → IsFinal m → moves_pending (pending_of m.shared q) ≡ 0
 no_moves m q final =
-    let load = ap one_if (no_load m q final) in
-    let store = ap one_if (no_store m q final) in
+    let load = no_rows _ (no_load m q final) in
+    let store = no_rows _ (no_store m q final) in
     let first = looks_fetched_0 m q final in
     let second = looks_fetched_1 m q final in
     omega (arith, load, store, first, second)

@@ -1,6 +1,6 @@
 -- A machine has fewer steps left after each step.
 use Rattle.std.proofs.Common.{◌≡◌, ◌≢◌, ◌<◌, ◌≤◌, ◌+◌, ◌-◌, ◌*◌, ◌^◌, ℕ, zero, suc, Bool, true, false, List, [], ◌∷◌, length, Option, Some, None, ◌⊎◌, inl, inr, refl, sym, subst, ap, ◌∙◌, arith}
-use Rattle.std.specs.Prelude.{slice_index, slice_index_or, slice_set, is_some, if◌then◌else◌}
+use Rattle.std.specs.Prelude.{slice_index, slice_index_or, slice_set, is_some, nat_lt, if◌then◌else◌}
 use Rattle.std.proofs.lemmas.Bool.{cases_eq, cases_lt}
 use Rattle.std.proofs.lemmas.Bool.Decides.{nat_tests}
 use Rattle.std.proofs.lemmas.List.{get_or-set_same, get_or-set_other}
@@ -10,7 +10,10 @@ use Rattle.qpu_word.specs.Words.{fields_of, one_if}
 use Rattle.qpu_word.specs.Processor.{ProcessorState}
 use Rattle.qpu_word.specs.Instruction.{is_link_point, halted, outs_of, add_sent, mul_sent}
 use Rattle.qpu_word.proofs.KeptLemmas.{done_moves}
-use Rattle.qpu_dma.specs.declared.transfer.Transfer.{Transfer}
+use Rattle.qpu_dma.specs.declared.direction.Direction.{Direction}
+use Rattle.qpu_dma.specs.declared.direction.Direction.TheVariants.{Load as LoadOf, Store as StoreOf}
+use Rattle.qpu_dma.specs.Transfers.{TransferState}
+use Rattle.qpu_dma.specs.Moves.{after_row}
 use Rattle.qpu_tmu.specs.declared.look_up.LookUp.{LookUp}
 use Rattle.qpu_tmu.specs.Looks.{with_queue, is_waiting}
 use Rattle.qpu_shared.specs.declared.did.Did.{Did}
@@ -19,16 +22,17 @@ use Rattle.qpu_shared.specs.declared.pending.Pending.{Pending}
 use Rattle.qpu_shared.specs.SharedState.{SharedState, nothing_pending}
 use Rattle.qpu_shared.specs.Exec.{Does}
 use Rattle.qpu_shared.specs.Instruction.{first_cause, ins_of, instruction_result, outcome_under, is_going, is_running, pending_of, pending_after}
-use Rattle.qpu_shared.specs.Moves.{after_load, after_store, after_fetch, fetched, unit_looks, load_moved, store_moved, fetch_moved}
+use Rattle.qpu_shared.specs.Moves.{transfer_in, with_transfer, after_fetch, fetched, unit_looks, row_moved, fetch_moved}
 use Rattle.qpu_machine.specs.declared.actor.Actor.{Actor}
 use Rattle.qpu_machine.specs.declared.actor.Actor.TheVariants.{Exec, Load, Store, Fetch}
 use Rattle.qpu_machine.specs.Machine.{MachineState, processor_of, words_of, with_both, after_step, is_enabled, Step}
 use Rattle.qpu_machine.specs.Sound.{IsSoundMachine}
 use Rattle.qpu_machine.specs.Schedule.{After, here, next}
-use Rattle.qpu_machine.specs.Bound.{instructions_left, waiting, moves_pending, steps_left_of, sum_below, steps_left}
-use Rattle.qpu_machine.proofs.KeptOthers.{others_by_load, others_by_store, others_by_fetch}
+use Rattle.qpu_machine.specs.Bound.{instructions_left, waiting, rows_left, moves_pending, moves_most, steps_left_of, sum_below, steps_left}
+use Rattle.qpu_machine.specs.Kept.{IsShort}
+use Rattle.qpu_machine.proofs.KeptOthers.{left_by_row, others_by_row, others_by_fetch}
 use Rattle.qpu_machine.proofs.KeptStep.{IsDone, parts_of_done, pending_left}
-use Rattle.qpu_machine.proofs.MovedLemmas.{load_there, store_there, fetch_there}
+use Rattle.qpu_machine.proofs.MovedLemmas.{row_there, fetch_there}
 use Rattle.qpu_machine.proofs.PendingLemmas.{moves_by_instruction, moves_by_fetch, one_most}
 use Rattle.qpu_machine.proofs.ScheduleLemmas.{StepsExec, steps_exec, keeps_exec, steps_load, steps_store, steps_fetch, there_few, there_low, started_there, sound_step, is_step}
 
@@ -109,10 +113,10 @@ left_halted limit p kind runs = let before = left_running limit p runs in let le
     running_less : (limit : ℕ) (x : ProcessorState) → is_running limit x ≡ true → x.executed < limit
     running_less limit x runs = grind (arith, nat_tests)
 
--- what an instruction leaves: one less to execute, and two more moves at most
+-- what an instruction leaves: one less to execute, and 80 more moves at most
 pub record LeavesLess (limit : ℕ) (q : ℕ) (p : ProcessorState) (h : SharedState) (after : ProcessorState) (left : SharedState) : Type 0 where
   pub instructions : instructions_left limit (Some after) + 1 ≤ instructions_left limit (Some p)
-  pub moves : moves_pending (pending_of left q) ≤ moves_pending (pending_of h q) + 2
+  pub moves : moves_pending (pending_of left q) ≤ moves_pending (pending_of h q) + moves_most
 
 less_done : (limit : ℕ) (is_link : ℕ → Bool) (word : ℕ) (p : ProcessorState) (h : SharedState) (after : ProcessorState) (left : SharedState) → is_running limit p ≡ true
     → p.q < length h.pending → IsDone is_link word p h after left → LeavesLess limit p.q p h after left
@@ -123,7 +127,7 @@ less_done limit is_link word p h after left runs there d =
       instructions = left_counted limit p after runs (ap (λ (x : ProcessorState). x.executed) d.is_after ∙ (done_moves f p (ins_of f p h) d.starts.book).executed);
       moves =
           let is : pending_of left p.q ≡ pending_after f outs d.starts (pending_of h p.q) = ap (λ (x : SharedState). pending_of x p.q) d.is_left ∙ pending_left f p outs d.starts h there in
-          subst (λ (x : Pending). moves_pending x ≤ moves_pending (pending_of h p.q) + 2) (sym is)
+          subst (λ (x : Pending). moves_pending x ≤ moves_pending (pending_of h p.q) + moves_most) (sym is)
           (moves_by_instruction f (add_sent f p (ins_of f p h)) (mul_sent f p (ins_of f p h)) h.memory d.book d.starts (pending_of h p.q) d.begins);
     }
 
@@ -192,21 +196,20 @@ left_made P made left e holds = let same : made ≡ left = cc in subst P same ho
 none_made : (left : SharedState) → ◌≡◌ {A = Option SharedState} None (Some left) → ⊥
 none_made left e = cc
 
-fewer_load : (h : SharedState) (q : ℕ) (left : SharedState) (load : Option Transfer) → (pending_of h q).load ≡ load → q < length h.pending → after_load h q load ≡ Some left
-    → moves_pending (pending_of left q) + 1 ≡ moves_pending (pending_of h q)
-fewer_load h q left None is there e = absurd (none_made left e)
-fewer_load h q left (Some t) is there e =
-    let some = ap (λ (o : Option Transfer). one_if (is_some o)) is in
-    left_made (λ s. moves_pending (pending_of s q) + 1 ≡ moves_pending (pending_of h q)) _ left e
-    (put_less h q (record (pending_of h q) { load = None }) there (omega (arith, some)))
+-- one row less is left
+row_less : (rows moved : ℕ) (more : Bool) (t : TransferState) → t.rows ≡ rows → t.moved ≡ moved → nat_lt (moved + 1) rows ≡ more
+    → rows_left (if more then Some (record t { moved = t.moved + 1 }) else None) + 1 ≡ rows_left (Some t)
+row_less rows moved true t r m is = let less : moved + 1 < rows = grind (arith, nat_tests) in omega (arith, less, r, m)
+row_less rows moved false t r m is = let done : rows ≤ moved + 1 = grind (arith, nat_tests) in omega (arith, done, r, m)
 
-fewer_store : (h : SharedState) (q : ℕ) (left : SharedState) (store : Option Transfer) → (pending_of h q).store ≡ store → q < length h.pending → after_store h q store ≡ Some left
-    → moves_pending (pending_of left q) + 1 ≡ moves_pending (pending_of h q)
-fewer_store h q left None is there e = absurd (none_made left e)
-fewer_store h q left (Some t) is there e =
-    let some = ap (λ (o : Option Transfer). one_if (is_some o)) is in
-    left_made (λ s. moves_pending (pending_of s q) + 1 ≡ moves_pending (pending_of h q)) _ left e
-    (put_less h q (record (pending_of h q) { store = None }) there (omega (arith, some)))
+after_less : (t : TransferState) → rows_left (after_row t) + 1 ≡ rows_left (Some t)
+unfolding after_row
+after_less t = row_less t.rows t.moved (nat_lt (t.moved + 1) t.rows) t refl refl refl
+
+fewer_rows : (direction : Direction) (pending : Pending) (t : TransferState) → transfer_in direction pending ≡ Some t
+    → moves_pending (with_transfer direction pending (after_row t)) + 1 ≡ moves_pending pending
+fewer_rows LoadOf pending t is = let less = after_less t in let all = ap rows_left is in omega (arith, less, all)
+fewer_rows StoreOf pending t is = let less = after_less t in let all = ap rows_left is in omega (arith, less, all)
 
 fewer_fetch : (h : SharedState) (q unit : ℕ) (left : SharedState) (looks : Option (List LookUp)) → fetched h.memory (unit_looks (pending_of h q) unit) ≡ looks → q < length h.pending
     → after_fetch h q unit looks ≡ Some left → moves_pending (pending_of left q) + 1 ≡ moves_pending (pending_of h q)
@@ -215,17 +218,17 @@ fewer_fetch h q unit left (Some looks) is there e =
     left_made (λ s. moves_pending (pending_of s q) + 1 ≡ moves_pending (pending_of h q)) _ left e
     (put_less h q (record (pending_of h q) { looks = with_queue (pending_of h q).looks unit looks }) there (moves_by_fetch h.memory (pending_of h q) unit looks is))
 
-pub moves_load : (h : SharedState) (q : ℕ) (left : SharedState) → load_moved h q ≡ Some left → MovesOne h q left
-unfolding load_moved
-moves_load h q left moved =
-    let there = load_there h q left moved (cases_lt q (length h.pending)) in
-    record { there = there; own = fewer_load h q left (pending_of h q).load refl there moved; others = λ r apart. others_by_load h q r left apart moved }
+own_row : (direction : Direction) (h : SharedState) (q : ℕ) (left : SharedState) → q < length h.pending → row_moved direction h q ≡ Some left
+    → moves_pending (pending_of left q) + 1 ≡ moves_pending (pending_of h q)
+unfolding row_moved
+own_row direction h q left there moved =
+    left_by_row (λ (xs : List Pending). moves_pending (slice_index_or xs q nothing_pending) + 1 ≡ moves_pending (pending_of h q)) direction h q left (transfer_in direction (pending_of h q)) moved
+    (λ t is. put_less h q (with_transfer direction (pending_of h q) (after_row t)) there (fewer_rows direction (pending_of h q) t is))
 
-pub moves_store : (h : SharedState) (q : ℕ) (left : SharedState) → store_moved h q ≡ Some left → MovesOne h q left
-unfolding store_moved
-moves_store h q left moved =
-    let there = store_there h q left moved (cases_lt q (length h.pending)) in
-    record { there = there; own = fewer_store h q left (pending_of h q).store refl there moved; others = λ r apart. others_by_store h q r left apart moved }
+pub moves_row : (direction : Direction) (h : SharedState) (q : ℕ) (left : SharedState) → row_moved direction h q ≡ Some left → MovesOne h q left
+moves_row direction h q left moved =
+    let there = row_there direction h q left moved (cases_lt q (length h.pending)) in
+    record { there = there; own = own_row direction h q left there moved; others = λ r apart. others_by_row direction h q r left apart moved }
 
 pub moves_fetch : (h : SharedState) (q unit : ℕ) (left : SharedState) → fetch_moved h q unit ≡ Some left → MovesOne h q left
 unfolding fetch_moved
@@ -238,9 +241,9 @@ moves_fetch h q unit left moved =
 pub step_less : (m : MachineState) (actor : Actor) (n : MachineState) → IsSoundMachine m → Step m actor n → steps_left n + 1 ≤ steps_left m
 step_less m (Exec q) n sound steps = falls_less m n q (falls_exec m q n sound steps)
 step_less m (Load q) n sound steps =
-    let x = steps_load m q n steps in falls_less m n q (subst (λ k. Falls m k q) (sym x.is) (falls_move m q x.left sound (moves_load m.shared q x.left x.moves)))
+    let x = steps_load m q n steps in falls_less m n q (subst (λ k. Falls m k q) (sym x.is) (falls_move m q x.left sound (moves_row LoadOf m.shared q x.left x.moves)))
 step_less m (Store q) n sound steps =
-    let x = steps_store m q n steps in falls_less m n q (subst (λ k. Falls m k q) (sym x.is) (falls_move m q x.left sound (moves_store m.shared q x.left x.moves)))
+    let x = steps_store m q n steps in falls_less m n q (subst (λ k. Falls m k q) (sym x.is) (falls_move m q x.left sound (moves_row StoreOf m.shared q x.left x.moves)))
 step_less m (Fetch q unit) n sound steps =
     let x = steps_fetch m q unit n steps in falls_less m n q (subst (λ k. Falls m k q) (sym x.is) (falls_move m q x.left sound (moves_fetch m.shared q unit x.left x.moves)))
 
@@ -267,19 +270,28 @@ pub instructions_most : (limit : ℕ) (o : Option ProcessorState) → instructio
 instructions_most limit None = omega arith
 instructions_most limit (Some p) = let most = left_most limit p in omega (arith, most)
 
-left_of_most : (m : MachineState) (q : ℕ) → IsSoundMachine m → steps_left_of m q ≤ 3000010
-left_of_most m q sound =
+rows_few : (transfer : Option TransferState) → IsShort transfer → rows_left transfer ≤ 64
+rows_few None short = omega arith
+rows_few (Some t) short = omega (arith, short)
+
+-- a processor has few moves pending
+pub pending_most : (m : MachineState) (q : ℕ) → IsSoundMachine m → moves_pending (pending_of m.shared q) ≤ 136
+pending_most m q sound =
     let pending : Pending = pending_of m.shared q in
     let few = sound.looks q in
     let few0 = few.0 in
     let few1 = few.1 in
+    let rows = sound.rows q in
     let first = waiting_most pending.looks.looks0 in
     let second = waiting_most pending.looks.looks1 in
-    let load = one_most (is_some pending.load) in
-    let store = one_most (is_some pending.store) in
-    let instructions = instructions_most m.limit (processor_of m q) in
-    omega (arith, few0, few1, first, second, load, store, instructions, sound.limit)
+    let load = rows_few pending.load rows.0 in
+    let store = rows_few pending.store rows.1 in
+    omega (arith, few0, few1, first, second, load, store)
+
+left_of_most : (m : MachineState) (q : ℕ) → IsSoundMachine m → steps_left_of m q ≤ 81000136
+left_of_most m q sound =
+    let pending = pending_most m q sound in let instructions = instructions_most m.limit (processor_of m q) in omega (arith, pending, instructions, sound.limit)
 
 pub left_below : (m : MachineState) → IsSoundMachine m → steps_left m < 2 ^ 63
 unfolding steps_left
-left_below m sound = let most = sum_most (steps_left_of m) 3000010 12 (λ r. left_of_most m r sound) in omega (arith, most)
+left_below m sound = let most = sum_most (steps_left_of m) 81000136 12 (λ r. left_of_most m r sound) in omega (arith, most)

@@ -19,7 +19,8 @@ use Rattle.qpu_hazard.specs.Demands.{actions, look_place, looks_made, looks_take
 use Rattle.qpu_hazard.specs.Paths.{looks_after}
 use Rattle.qpu_shared.specs.declared.pending.Pending.{Pending}
 use Rattle.qpu_shared.specs.declared.starts.Begun.{Begun}
-use Rattle.qpu_shared.specs.Instruction.{looks_of, after_vpm_write, load_started, store_started, word_indexes, look_issued, after_writes, after_take, after_issue, lookups_after}
+use Rattle.qpu_dma.specs.declared.direction.Direction.TheVariants.{Load as LoadOf, Store as StoreOf}
+use Rattle.qpu_shared.specs.Instruction.{looks_of, after_vpm_write, transfer_started, word_indexes, look_issued, after_writes, after_take, after_issue, lookups_after}
 use Rattle.qpu_shared.specs.Exec.{HasRoom}
 use Rattle.qpu_shared.proofs.LocalLemmas.{nothing_nowhere}
 
@@ -187,8 +188,8 @@ unfolding after_writes
 look_starts outs memory book starts e =
     through (after_vpm_write outs.vpm book) _ starts (λ b _.
     through (after_setups outs b) _ starts (λ c _.
-    through (load_started outs.load_at c memory) _ starts (λ load _.
-    through (store_started outs.store_at c memory) _ starts (λ store _.
+    through (transfer_started LoadOf outs.load_at c memory) _ starts (λ load _.
+    through (transfer_started StoreOf outs.store_at c memory) _ starts (λ store _.
     through (look_issued outs.look memory) _ starts (λ look is last.
     ap (λ (s : Begun). is_some s.look) (sym (ok_same _ _ last)) ∙ issued_same outs.look memory look is))))) e
 

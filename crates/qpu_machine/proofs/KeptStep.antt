@@ -1,5 +1,5 @@
 -- An instruction of a processor of a clean program keeps that it stands on a path.
-use Rattle.std.proofs.Common.{◌≡◌, ◌<◌, ◌≤◌, ◌+◌, ◌-◌, ℕ, Bool, true, false, List, ◌∷◌, length, Option, Some, None, Result, Ok, Err, refl, subst, ap, ◌∙◌, arith}
+use Rattle.std.proofs.Common.{sym, ◌≡◌, ◌<◌, ◌≤◌, ◌+◌, ◌-◌, ℕ, Bool, true, false, List, ◌∷◌, length, Option, Some, None, Result, Ok, Err, refl, subst, ap, ◌∙◌, arith}
 use Rattle.std.specs.Prelude.{slice_index, ◌||◌}
 use Rattle.qpu_hazard.specs.Demands.{sets_flags}
 use Rattle.std.proofs.lemmas.List.{get_or-set_same}
@@ -25,11 +25,12 @@ use Rattle.qpu_hazard.specs.Standing.{ProcessorGoes}
 use Rattle.qpu_shared.specs.declared.did.Did.{Did}
 use Rattle.qpu_shared.specs.declared.did.Did.TheVariants.{Stepped, Awaits as ItAwaits, Faulted as ItFaulted}
 use Rattle.qpu_shared.specs.Exec.{Does}
-use Rattle.qpu_machine.specs.Kept.{IsOnPath, IsKept, HasFewLooks, KeepsPath}
+use Rattle.qpu_machine.specs.Kept.{IsOnPath, IsKept, HasFewLooks, HasFewRows, KeepsPath}
 use Rattle.qpu_hazard.proofs.ProcessorLemmas.{processor_stays}
 use Rattle.qpu_hazard.proofs.MaskLemmas.{zn_defined, carry_defined}
 use Rattle.qpu_machine.proofs.KeptLooks.{looks_step}
 use Rattle.qpu_machine.proofs.KeptOthers.{others_by_instruction, length_kept_by_instruction}
+use Rattle.qpu_machine.proofs.PendingLemmas.{rows_by_instruction}
 use Rattle.qpu_word.proofs.KeptLemmas.{done_moves}
 use Rattle.qpu_shared.proofs.ExecLemmas.{free_of_none}
 use Rattle.qpu_hazard.proofs.HoldLemmas.{word_holds}
@@ -195,6 +196,9 @@ keeps_done code p h after left there clean on d =
       executed = let e : after.executed ≡ p.executed + 1 = ap (λ (x : ProcessorState). x.executed) d.is_after ∙ moves.executed in omega (arith, e);
       kept = kept_by_instruction code p h after left there clean on d;
       few = few_by_instruction code p h after left there clean on d;
+      rows = λ rows.
+          subst HasFewRows (sym (ap (λ (x : SharedState). pending_of x p.q) d.is_left ∙ pending_left f p (outs_of f p ins) d.starts h there))
+          (rows_by_instruction f (outs_of f p ins) h.memory d.book d.starts (pending_of h p.q) d.begins rows);
       others = λ other apart. ap (λ (x : SharedState). pending_of x other) d.is_left ∙ others_by_instruction f p (outs_of f p ins) d.starts h p.q other refl apart;
       room = ap (λ (x : SharedState). length x.pending) d.is_left ∙ length_kept_by_instruction f p (outs_of f p ins) d.starts h;
     }
@@ -206,6 +210,7 @@ keeps_still code p h clean on = record {
   executed = omega arith;
   kept = λ going. on;
   few = few_on_path code p (pending_of h p.q).looks clean on;
+  rows = λ rows. rows;
   others = λ other apart. refl;
   room = refl;
 }
@@ -219,6 +224,7 @@ keeps_fault code p h kind clean on = record {
   executed = omega arith;
   kept = λ going. absurd (cc);
   few = few_on_path code p (pending_of h p.q).looks clean on;
+  rows = λ rows. rows;
   others = λ other apart. refl;
   room = refl;
 }

@@ -43,7 +43,7 @@ record Opened (memory : List ℕ) (limit : ℕ) (programs : List (List ℕ)) (st
   listed : m.programs ≡ programs
   shared : m.shared ≡ opening_shared memory
   room : length m.program_of ≡ 12
-  left : steps_left m ≤ 3 * limit * started
+  left : steps_left m ≤ 81 * limit * started
   stands : (q : ℕ) (p : ProcessorState) → processor_of m q ≡ Some p → ProcessorStands (words_of m q) [] p.place p.rest
 
 -- steps left
@@ -69,13 +69,13 @@ unstarted_left : (memory : List ℕ) (limit : ℕ) (programs : List (List ℕ)) 
 unfolding steps_left
 unstarted_left memory limit programs = none_sum _ 12 (none_left memory limit programs)
 
-started_left : (m : MachineState) (start : Start) → start.q < length m.processors → steps_left (with_start m start) ≤ steps_left m + 3 * m.limit
+started_left : (m : MachineState) (start : Start) → start.q < length m.processors → steps_left (with_start m start) ≤ steps_left m + 81 * m.limit
 unfolding steps_left
 started_left m start low =
     let opened : Option ProcessorState = Some (opening_processor start.q start.uniforms) in
     let own = ap (instructions_left m.limit) (get_or-set_same m.processors start.q opened None low) in
     let most = instructions_most m.limit opened in
-    sum_grows (steps_left_of m) (steps_left_of (with_start m start)) start.q 12 (3 * m.limit)
+    sum_grows (steps_left_of m) (steps_left_of (with_start m start)) start.q 12 (81 * m.limit)
     (λ r apart. let same = ap (instructions_left m.limit) (get_or-set_other m.processors start.q r opened None apart) in omega (arith, same))
     (omega (arith, own, most))
 
@@ -110,7 +110,7 @@ stands_start m start low room clean before q p (inr apart) there =
 
 -- one start after another
 
-more_left : (n m limit started : ℕ) → n ≤ m + 3 * limit → m ≤ 3 * limit * started → n ≤ 3 * limit * (started + 1)
+more_left : (n m limit started : ℕ) → n ≤ m + 81 * limit → m ≤ 81 * limit * started → n ≤ 81 * limit * (started + 1)
 more_left n m limit started now before = omega (arith, now, before)
 
 opened_start : (memory : List ℕ) (limit : ℕ) (programs : List (List ℕ)) (started : ℕ) (m : MachineState) (start : Start) → Opened memory limit programs started m → start.q < 12
@@ -127,7 +127,7 @@ opened_start memory limit programs started m start is low there clean =
       listed = is.listed;
       shared = is.shared;
       room = length-set m.program_of start.q start.program ∙ is.room;
-      left = more_left _ _ limit started (subst (λ l. steps_left (with_start m start) ≤ steps_left m + 3 * l) is.limited more) is.left;
+      left = more_left _ _ limit started (subst (λ l. steps_left (with_start m start) ≤ steps_left m + 81 * l) is.limited more) is.left;
       stands = λ q p at.
           stands_start m start (omega (arith, sound.processors, low)) (omega (arith, is.room, low))
           (subst (λ (xs : List (List ℕ)). IsClean (slice_index_or xs start.program [])) (sym is.listed) clean) is.stands q p (cases_eq q start.q) at;

@@ -13,7 +13,7 @@ use Rattle.qpu_hazard.specs.Paths.{IsClean}
 use Rattle.qpu_hazard.proofs.ProcessorLemmas.{processor_opens}
 use Rattle.qpu_machine.specs.declared.start.Start.{Start}
 use Rattle.qpu_machine.specs.Machine.{MachineState, processor_of, words_of, with_start, machine_of}
-use Rattle.qpu_machine.specs.Kept.{IsOnPath, HasFewLooks}
+use Rattle.qpu_machine.specs.Kept.{IsOnPath, HasFewLooks, HasFewRows}
 use Rattle.qpu_machine.specs.Sound.{IsStarted, IsStartedAt, IsSoundMachine}
 use Rattle.qpu_machine.proofs.AloneLemmas.{nobody_pending}
 
@@ -29,11 +29,15 @@ room_opens memory = refl
 nothing_few : (pending : Pending) → pending ≡ nothing_pending → HasFewLooks pending.looks
 nothing_few pending nothing = subst (λ (x : Pending). HasFewLooks x.looks) (sym nothing) (omega arith, omega arith)
 
+nothing_short : (pending : Pending) → pending ≡ nothing_pending → HasFewRows pending
+nothing_short pending nothing = subst HasFewRows (sym nothing) (tt, tt)
+
 pub sound_unstarted : (m : MachineState) (memory : List ℕ) → m.limit ≤ 1000000 → m.shared ≡ opening_shared memory → m.processors ≡ replicate 12 None → IsSoundMachine m
 sound_unstarted m memory limit shared none = record {
   limit = limit;
   pending = ap (λ (h : SharedState). length h.pending) shared ∙ room_opens memory;
   looks = λ q. nothing_few _ (ap (λ (h : SharedState). pending_of h q) shared ∙ nobody_pending memory q);
+  rows = λ q. nothing_short _ (ap (λ (h : SharedState). pending_of h q) shared ∙ nobody_pending memory q);
   processors = ap length none;
   each = λ q few. none_started m q (ap (λ (ps : List (Option ProcessorState)). slice_index_or ps q None) none ∙ get_or-replicate 12 q None None few);
 }
@@ -94,6 +98,7 @@ sound_started m start sound room low there nothing clean = record {
   limit = sound.limit;
   pending = sound.pending;
   looks = sound.looks;
+  rows = sound.rows;
   processors = length-set m.processors start.q (Some (opening_processor start.q start.uniforms)) ∙ sound.processors;
   each = λ r few. started_at m start sound room low there nothing clean r few (cases_eq r start.q);
 }

@@ -1,5 +1,5 @@
--- How many moves are pending: an instruction makes two more at most, and a move one less.
-use Rattle.std.proofs.Common.{◌≡◌, ◌<◌, ◌≤◌, ◌+◌, ℕ, zero, suc, Bool, true, false, List, [], ◌∷◌, ◌++◌, drop, Option, Some, None, Result, Ok, Err, refl, ap, sym, ◌∙◌, arith}
+-- How many moves are pending: an instruction makes 80 more at most, and a move one less.
+use Rattle.std.proofs.Common.{◌≡◌, ◌<◌, ◌≤◌, ◌+◌, ℕ, zero, suc, Bool, true, false, List, [], ◌∷◌, ◌++◌, ◌*◌, drop, length, Option, Some, None, Result, Ok, Err, IsTrue, refl, ap, sym, subst, ◌∙◌, arith}
 use Rattle.std.specs.Prelude.{◌==◌, ◌&&◌, nat_lt, is_some, map, find, option_map, slice_index, if◌then◌else◌}
 use Rattle.std.proofs.lemmas.Bool.Decides.{nat_tests}
 use Rattle.qpu_word.specs.declared.word.Fields.{Fields}
@@ -11,15 +11,18 @@ use Rattle.qpu_word.specs.declared.fault.FaultKind.TheVariants.{Transfer as Tran
 use Rattle.qpu_word.specs.declared.code.TheConstants.{WRITE_DMA_ADDRESS, TMU_UNITS}
 use Rattle.qpu_word.specs.Words.{swaps_writes, is_tmu_load, add_writes, mul_writes, writes_a, writes_b, one_if}
 use Rattle.qpu_word.specs.Instruction.{after_setups, first_lane, as_lanes, is_look_address, look_address, outs_from, sent_to, sent_to_a, sent_to_b}
-use Rattle.qpu_dma.specs.declared.transfer.Transfer.{Transfer}
-use Rattle.qpu_dma.specs.Transfers.{TransferPlan, load_plan, store_plan}
+use Rattle.qpu_dma.specs.declared.direction.Direction.{Direction}
+use Rattle.qpu_dma.specs.declared.direction.Direction.TheVariants.{Load as LoadOf, Store as StoreOf}
+use Rattle.qpu_dma.specs.Transfers.{TransferState, transfer_of, fits}
+use Rattle.qpu_dma.proofs.SetupLemmas.{load_rows, transfer_rows}
 use Rattle.qpu_tmu.specs.declared.look_up.LookUp.{LookUp}
 use Rattle.qpu_tmu.specs.Looks.{LookupsState, with_queue, is_waiting, with_look, with_words, next_look}
 use Rattle.qpu_shared.specs.declared.pending.Pending.{Pending}
 use Rattle.qpu_shared.specs.declared.starts.Begun.{Begun}
-use Rattle.qpu_shared.specs.Instruction.{looks_of, after_vpm_write, transfer_started, load_started, store_started, look_issued, after_writes, or_pending, after_take, after_issue, pending_after}
+use Rattle.qpu_shared.specs.Instruction.{looks_of, after_vpm_write, setup_in, step_in, started_with, transfer_started, look_issued, after_writes, or_pending, after_take, after_issue, pending_after}
 use Rattle.qpu_shared.specs.Moves.{fetched, unit_looks}
-use Rattle.qpu_machine.specs.Bound.{waiting, moves_pending}
+use Rattle.qpu_machine.specs.Bound.{waiting, rows_left, moves_pending, moves_most}
+use Rattle.qpu_machine.specs.Kept.{IsShort, HasFewRows}
 use Rattle.qpu_machine.proofs.KeptLooks.{ok_same, through, look_starts, by_issue, none_there}
 
 -- look-ups that aren't fetched
@@ -57,53 +60,90 @@ one_unit (suc (suc unit)) some = rw (apart (suc (suc unit)) 0 (omega arith), apa
 
 -- what an instruction starts
 
-load_more : (new old : Option Transfer) → one_if (is_some (or_pending new old)) ≤ one_if (is_some new) + one_if (is_some old)
-load_more None old = omega arith
-load_more (Some t) None = omega arith
-load_more (Some t) (Some u) = omega arith
+rows_more : (new old : Option TransferState) → rows_left (or_pending new old) ≤ rows_left new + rows_left old
+rows_more None old = omega arith
+rows_more (Some t) None = omega arith
+rows_more (Some t) (Some u) = omega arith
 
-ok_some : (t : Transfer) (issued : Option Transfer) → ◌≡◌ {A = Result (Option Transfer) FaultKind} (Ok (Some t)) (Ok issued) → is_some issued ≡ true
-ok_some t issued e = let same : ◌≡◌ {A = Option Transfer} (Some t) issued = cc in ap (λ (o : Option Transfer). is_some o) (sym same)
+-- the most rows of a transfer
+abbrev rows_most : Direction → ℕ
+rows_most LoadOf = 16
+rows_most StoreOf = 64
 
-ok_none : (issued : Option Transfer) → ◌≡◌ {A = Result (Option Transfer) FaultKind} (Ok None) (Ok issued) → is_some issued ≡ false
-ok_none issued e = let same : ◌≡◌ {A = Option Transfer} None issued = cc in ap (λ (o : Option Transfer). is_some o) (sym same)
+most_short : (direction : Direction) → rows_most direction ≤ 64
+most_short LoadOf = omega arith
+most_short StoreOf = omega arith
 
-fits_some : (b : Bool) (t : Transfer) (issued : Option Transfer) → (if b then Ok (Some t) else Err TransferFault) ≡ Ok issued → is_some issued ≡ true
-fits_some true t issued e = ok_some t issued e
-fits_some false t issued e = absurd (cc)
+-- a transfer that starts has few rows, where there is one
+record StartsFew (direction : Direction) (at : Option ℕ) (starts : Option TransferState) : Type 0 where
+  short : IsShort starts
+  most : rows_left starts ≤ rows_most direction * one_if (is_some at)
 
-started_some : (plan : Transfer → TransferPlan) (memory : List ℕ) (setup : Option ℕ) (step address : ℕ) (issued : Option Transfer)
-    → transfer_started plan memory setup step address ≡ Ok issued → is_some issued ≡ true
-started_some plan memory None step address issued e = absurd (cc)
-started_some plan memory (Some setup) step address issued e = fits_some _ _ issued e
+few_none : (direction : Direction) (starts : Option TransferState) → ◌≡◌ {A = Result (Option TransferState) FaultKind} (Ok None) (Ok starts) → StartsFew direction None starts
+few_none direction starts e =
+    let same : ◌≡◌ {A = Option TransferState} None starts = cc in
+    subst (StartsFew direction None) same (record { short = tt; most = omega arith })
 
-load_same : (at : Option ℕ) (book : Book) (memory : List ℕ) (issued : Option Transfer) → load_started at book memory ≡ Ok issued → is_some issued ≡ is_some at
-load_same None book memory issued e = ok_none issued e
-load_same (Some address) book memory issued e = started_some load_plan memory book.load book.load_pitch address issued e
+few_some : (direction : Direction) (address : ℕ) (t : TransferState) (starts : Option TransferState) → t.rows ≤ rows_most direction
+    → ◌≡◌ {A = Result (Option TransferState) FaultKind} (Ok (Some t)) (Ok starts) → StartsFew direction (Some address) starts
+few_some LoadOf address t starts few e =
+    let same : ◌≡◌ {A = Option TransferState} (Some t) starts = cc in
+    subst (StartsFew LoadOf (Some address)) same (record { short = omega (arith, few); most = omega (arith, few) })
+few_some StoreOf address t starts few e =
+    let same : ◌≡◌ {A = Option TransferState} (Some t) starts = cc in
+    subst (StartsFew StoreOf (Some address)) same (record { short = omega (arith, few); most = omega (arith, few) })
 
-store_same : (at : Option ℕ) (book : Book) (memory : List ℕ) (issued : Option Transfer) → store_started at book memory ≡ Ok issued → is_some issued ≡ is_some at
-store_same None book memory issued e = ok_none issued e
-store_same (Some address) book memory issued e = started_some store_plan memory book.store book.store_stride address issued e
+-- a transfer of each direction that may start has few rows
+rows_few : (direction : Direction) (setup step address words : ℕ) → IsTrue (fits (transfer_of direction setup step address) words)
+    → (transfer_of direction setup step address).rows ≤ rows_most direction
+rows_few LoadOf setup step address words may = load_rows setup step address
+rows_few StoreOf setup step address words may = transfer_rows StoreOf setup step address words may
 
-load_starts : (outs : Outs) (memory : List ℕ) (book : Book) (starts : Begun) → after_writes outs memory book ≡ Ok starts → is_some starts.load ≡ is_some outs.load_at
+few_fitting : (direction : Direction) (setup step address : ℕ) (memory : List ℕ) (may : Bool) (starts : Option TransferState)
+    → fits (transfer_of direction setup step address) (length memory) ≡ may
+    → (if may then Ok (Some (transfer_of direction setup step address)) else Err TransferFault) ≡ Ok starts → StartsFew direction (Some address) starts
+few_fitting direction setup step address memory true starts may e =
+    few_some direction address _ starts (rows_few direction setup step address (length memory) may) e
+few_fitting direction setup step address memory false starts may e = absurd (cc)
+
+few_with : (direction : Direction) (setup : Option ℕ) (step address : ℕ) (memory : List ℕ) (starts : Option TransferState)
+    → started_with direction setup step address memory ≡ Ok starts → StartsFew direction (Some address) starts
+few_with direction None step address memory starts e = absurd (cc)
+few_with direction (Some setup) step address memory starts e =
+    few_fitting direction setup step address memory (fits (transfer_of direction setup step address) (length memory)) starts refl e
+
+few_started : (direction : Direction) (at : Option ℕ) (book : Book) (memory : List ℕ) (starts : Option TransferState)
+    → transfer_started direction at book memory ≡ Ok starts → StartsFew direction at starts
+few_started direction None book memory starts e = few_none direction starts e
+few_started direction (Some address) book memory starts e = few_with direction (setup_in direction book) (step_in direction book) address memory starts e
+
+-- both transfers that an instruction starts
+record StartFew (outs : Outs) (starts : Begun) : Type 0 where
+  load : StartsFew LoadOf outs.load_at starts.load
+  store : StartsFew StoreOf outs.store_at starts.store
+
+both_start : (outs : Outs) (memory : List ℕ) (book : Book) (starts : Begun) → after_writes outs memory book ≡ Ok starts → StartFew outs starts
 unfolding after_writes
-load_starts outs memory book starts e =
+both_start outs memory book starts e =
     through (after_vpm_write outs.vpm book) _ starts (λ b _.
     through (after_setups outs b) _ starts (λ c _.
-    through (load_started outs.load_at c memory) _ starts (λ load is.
-    through (store_started outs.store_at c memory) _ starts (λ store _.
+    through (transfer_started LoadOf outs.load_at c memory) _ starts (λ load is_load.
+    through (transfer_started StoreOf outs.store_at c memory) _ starts (λ store is_store.
     through (look_issued outs.look memory) _ starts (λ look _ last.
-    ap (λ (s : Begun). is_some s.load) (sym (ok_same _ _ last)) ∙ load_same outs.load_at c memory load is))))) e
+    subst (StartFew outs) (ok_same _ _ last)
+    (record { load = few_started LoadOf outs.load_at c memory load is_load; store = few_started StoreOf outs.store_at c memory store is_store })))))) e
 
-store_starts : (outs : Outs) (memory : List ℕ) (book : Book) (starts : Begun) → after_writes outs memory book ≡ Ok starts → is_some starts.store ≡ is_some outs.store_at
-unfolding after_writes
-store_starts outs memory book starts e =
-    through (after_vpm_write outs.vpm book) _ starts (λ b _.
-    through (after_setups outs b) _ starts (λ c _.
-    through (load_started outs.load_at c memory) _ starts (λ load _.
-    through (store_started outs.store_at c memory) _ starts (λ store is.
-    through (look_issued outs.look memory) _ starts (λ look _ last.
-    ap (λ (s : Begun). is_some s.store) (sym (ok_same _ _ last)) ∙ store_same outs.store_at c memory store is))))) e
+-- what is pending after an instruction has few rows
+short_or : (new old : Option TransferState) → IsShort new → IsShort old → IsShort (or_pending new old)
+short_or None old first second = second
+short_or (Some t) old first second = first
+
+pub rows_by_instruction : (f : Fields) (outs : Outs) (memory : List ℕ) (book : Book) (starts : Begun) (pending : Pending) → after_writes outs memory book ≡ Ok starts
+    → HasFewRows pending → HasFewRows (pending_after f outs starts pending)
+unfolding pending_after
+rows_by_instruction f outs memory book starts pending begins few =
+    let both = both_start outs memory book starts begins in
+    (short_or starts.load pending.load both.load.short few.0, short_or starts.store pending.store both.store.short few.1)
 
 -- a word has two writes, so it starts two moves at most
 
@@ -150,24 +190,28 @@ two_outs : (f : Fields) (add mul : List ℕ)
 unfolding outs_from
 two_outs f add mul = rw (to_load f add mul, to_store f add mul) (two_writes f add mul)
 
--- so an instruction makes two more pending at most
+-- sixteen rows, 64 rows and a look-up, of which two are started
+most_of_two : (load store look load_at store_at look_at : ℕ) → load ≤ 16 * load_at → store ≤ 64 * store_at → look ≡ look_at → load_at ≤ 1 → store_at ≤ 1 → look_at ≤ 1
+    → load_at + store_at + look_at ≤ 2 → load + store + look ≤ 80
+most_of_two load store look load_at store_at look_at a b c la sa ka two = omega (arith, a, b, c, la, sa, ka, two)
+
+-- so an instruction makes 80 more pending at most
 pub moves_by_instruction : (f : Fields) (add mul memory : List ℕ) (book : Book) (starts : Begun) (pending : Pending) → after_writes (outs_from f add mul) memory book ≡ Ok starts
-    → moves_pending (pending_after f (outs_from f add mul) starts pending) ≤ moves_pending pending + 2
+    → moves_pending (pending_after f (outs_from f add mul) starts pending) ≤ moves_pending pending + moves_most
 unfolding pending_after
 moves_by_instruction f add mul memory book starts pending begins =
     let outs : Outs = outs_from f add mul in
-    let load = load_more starts.load pending.load in
-    let store = load_more starts.store pending.store in
+    let load = rows_more starts.load pending.load in
+    let store = rows_more starts.store pending.store in
     let first = issue_more starts.look outs.look_unit 0 (after_take f 0 pending.looks.looks0) in
     let second = issue_more starts.look outs.look_unit 1 (after_take f 1 pending.looks.looks1) in
     let took0 = take_fewer (is_tmu_load f 0) pending.looks.looks0 in
     let took1 = take_fewer (is_tmu_load f 1) pending.looks.looks1 in
     let unit = one_unit outs.look_unit (is_some starts.look) in
-    let l = ap one_if (load_starts outs memory book starts begins) in
-    let s = ap one_if (store_starts outs memory book starts begins) in
-    let k = ap one_if (look_starts outs memory book starts begins) in
-    let two = two_outs f add mul in
-    omega (arith, load, store, first, second, took0, took1, unit, l, s, k, two)
+    let both = both_start outs memory book starts begins in
+    let most = most_of_two (rows_left starts.load) (rows_left starts.store) (one_if (is_some starts.look)) (one_if (is_some outs.load_at)) (one_if (is_some outs.store_at)) (one_if (is_some outs.look))
+    both.load.most both.store.most (ap one_if (look_starts outs memory book starts begins)) (one_most (is_some outs.load_at)) (one_most (is_some outs.store_at)) (one_most (is_some outs.look)) (two_outs f add mul) in
+    omega (arith, load, store, first, second, took0, took1, unit, most)
 
 -- moves
 

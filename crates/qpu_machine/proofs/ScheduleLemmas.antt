@@ -11,7 +11,8 @@ use Rattle.qpu_shared.specs.declared.did.Did.TheVariants.{Stepped, Awaits as ItA
 use Rattle.qpu_shared.specs.SharedState.{SharedState}
 use Rattle.qpu_shared.specs.Exec.{Does}
 use Rattle.qpu_shared.specs.Instruction.{Outcome, NoStep, Awaits, Faults, Done, first_cause, instruction_result, outcome_under, is_running, instruction}
-use Rattle.qpu_shared.specs.Moves.{load_moved, store_moved, fetch_moved}
+use Rattle.qpu_dma.specs.declared.direction.Direction.TheVariants.{Load as LoadOf, Store as StoreOf}
+use Rattle.qpu_shared.specs.Moves.{row_moved, fetch_moved}
 use Rattle.qpu_machine.specs.declared.actor.Actor.{Actor}
 use Rattle.qpu_machine.specs.declared.actor.Actor.TheVariants.{Exec, Load, Store, Fetch}
 use Rattle.qpu_machine.specs.Machine.{MachineState, processor_of, words_of, with_both, with_shared, after_exec, after_outcome, after_step, Step}
@@ -19,7 +20,7 @@ use Rattle.qpu_machine.specs.Kept.{KeepsPath}
 use Rattle.qpu_machine.specs.Sound.{IsStarted, IsStartedAt, IsSoundMachine}
 use Rattle.qpu_machine.specs.Schedule.{After, here, next}
 use Rattle.qpu_machine.proofs.SoundLemmas.{runs_as, on_running, number_running, sound_after}
-use Rattle.qpu_machine.proofs.MovedLemmas.{sound_by_load, sound_by_store, sound_by_fetch}
+use Rattle.qpu_machine.proofs.MovedLemmas.{sound_by_row, sound_by_fetch}
 use Rattle.qpu_machine.proofs.KeptStep.{keeps_by_word}
 
 some_is : (a b : MachineState) → ◌≡◌ {A = Option MachineState} (Some a) (Some b) → a ≡ b
@@ -134,13 +135,13 @@ by_move : (m : MachineState) (due : Option SharedState) (n : MachineState) → w
 by_move m None n steps = absurd (none_is n steps)
 by_move m (Some left) n steps = record { left = left; moves = refl; is = sym (some_is (record m { shared = left }) n steps) }
 
-pub steps_load : (m : MachineState) (q : ℕ) (n : MachineState) → Step m (Load q) n → StepsMove m (load_moved m.shared q) n
+pub steps_load : (m : MachineState) (q : ℕ) (n : MachineState) → Step m (Load q) n → StepsMove m (row_moved LoadOf m.shared q) n
 unfolding after_step
-steps_load m q n steps = by_move m (load_moved m.shared q) n steps
+steps_load m q n steps = by_move m (row_moved LoadOf m.shared q) n steps
 
-pub steps_store : (m : MachineState) (q : ℕ) (n : MachineState) → Step m (Store q) n → StepsMove m (store_moved m.shared q) n
+pub steps_store : (m : MachineState) (q : ℕ) (n : MachineState) → Step m (Store q) n → StepsMove m (row_moved StoreOf m.shared q) n
 unfolding after_step
-steps_store m q n steps = by_move m (store_moved m.shared q) n steps
+steps_store m q n steps = by_move m (row_moved StoreOf m.shared q) n steps
 
 pub steps_fetch : (m : MachineState) (q unit : ℕ) (n : MachineState) → Step m (Fetch q unit) n → StepsMove m (fetch_moved m.shared q unit) n
 unfolding after_step
@@ -150,8 +151,8 @@ steps_fetch m q unit n steps = by_move m (fetch_moved m.shared q unit) n steps
 
 pub sound_step : (m : MachineState) (actor : Actor) (n : MachineState) → IsSoundMachine m → Step m actor n → IsSoundMachine n
 sound_step m (Exec q) n sound steps = sound_exec m q n sound steps
-sound_step m (Load q) n sound steps = let x = steps_load m q n steps in subst IsSoundMachine (sym x.is) (sound_by_load m q true x.left sound x.moves)
-sound_step m (Store q) n sound steps = let x = steps_store m q n steps in subst IsSoundMachine (sym x.is) (sound_by_store m q true x.left sound x.moves)
+sound_step m (Load q) n sound steps = let x = steps_load m q n steps in subst IsSoundMachine (sym x.is) (sound_by_row LoadOf m q true x.left sound x.moves)
+sound_step m (Store q) n sound steps = let x = steps_store m q n steps in subst IsSoundMachine (sym x.is) (sound_by_row StoreOf m q true x.left sound x.moves)
 sound_step m (Fetch q unit) n sound steps =
     let x = steps_fetch m q unit n steps in subst IsSoundMachine (sym x.is) (sound_by_fetch m q unit true x.left sound x.moves)
 

@@ -21,7 +21,7 @@ use Rattle.qpu_shared.specs.Exec.{Does}
 use Rattle.qpu_shared.specs.Instruction.{first_cause, instruction_result, outcome_of, outcome_under, is_going, is_running, instruction, pending_of}
 use Rattle.qpu_machine.specs.declared.actor.Actor.TheVariants.{Exec}
 use Rattle.qpu_machine.specs.Machine.{MachineState, processor_of, words_of, with_both, after_outcome, after_step}
-use Rattle.qpu_machine.specs.Kept.{IsOnPath, IsKept, HasFewLooks, KeepsPath}
+use Rattle.qpu_machine.specs.Kept.{IsOnPath, IsKept, HasFewLooks, HasFewRows, KeepsPath}
 use Rattle.qpu_machine.specs.Sound.{IsStarted, IsStartedAt, IsSoundMachine}
 
 -- what a word of a running processor comes to in the machine
@@ -79,6 +79,7 @@ sound_after m q p after left sound low there runs keeps = record {
   limit = sound.limit;
   pending = keeps.room ∙ sound.pending;
   looks = λ r. few_or_other m q left sound keeps.few keeps.others r (cases_eq r q);
+  rows = λ r. rows_or_other m q left sound (keeps.rows (sound.rows q)) keeps.others r (cases_eq r q);
   processors = length-set m.processors q (Some after) ∙ sound.processors;
   each = λ r few. at_or_other m q p after left sound low there runs keeps r few (cases_eq r q);
 }
@@ -87,6 +88,11 @@ sound_after m q p after left sound low there runs keeps = record {
         → ((other : ℕ) → other ≢ q → pending_of left other ≡ pending_of m.shared other) → (r : ℕ) → (r ≡ q) ⊎ (r ≢ q) → HasFewLooks (pending_of left r).looks
     few_or_other m q left sound few others r (inl same) = subst (λ s. HasFewLooks (pending_of left s).looks) (sym same) few
     few_or_other m q left sound few others r (inr apart) = subst (λ (x : Pending). HasFewLooks x.looks) (sym (others r apart)) (sound.looks r)
+
+    rows_or_other : (m : MachineState) (q : ℕ) (left : SharedState) → IsSoundMachine m → HasFewRows (pending_of left q)
+        → ((other : ℕ) → other ≢ q → pending_of left other ≡ pending_of m.shared other) → (r : ℕ) → (r ≡ q) ⊎ (r ≢ q) → HasFewRows (pending_of left r)
+    rows_or_other m q left sound few others r (inl same) = subst (λ s. HasFewRows (pending_of left s)) (sym same) few
+    rows_or_other m q left sound few others r (inr apart) = subst HasFewRows (sym (others r apart)) (sound.rows r)
 
     executed_less : (m : MachineState) (p : ProcessorState) → is_running m.limit p ≡ true → p.executed < m.limit
     executed_less m p runs = grind (arith, nat_tests)
@@ -136,11 +142,12 @@ same_few looks looks' first second few = let a = few.0 in let b = few.1 in (omeg
 -- what is shared is replaced, with as many look-ups outstanding for each processor
 pub sound_moved : (m : MachineState) (left : SharedState) → IsSoundMachine m → length left.pending ≡ length m.shared.pending
     → ((r : ℕ) → (length (pending_of left r).looks.looks0 ≡ length (pending_of m.shared r).looks.looks0) × (length (pending_of left r).looks.looks1 ≡ length (pending_of m.shared r).looks.looks1))
-    → IsSoundMachine (record m { shared = left })
-sound_moved m left sound room counts = record {
+    → ((r : ℕ) → HasFewRows (pending_of left r)) → IsSoundMachine (record m { shared = left })
+sound_moved m left sound room counts rows = record {
   limit = sound.limit;
   pending = room ∙ sound.pending;
   looks = λ r. same_few (pending_of m.shared r).looks (pending_of left r).looks (counts r).0 (counts r).1 (sound.looks r);
+  rows = rows;
   processors = sound.processors;
   each = λ r few.
       other_started m (record m { shared = left }) r (processor_of m r) refl refl refl

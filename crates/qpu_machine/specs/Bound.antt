@@ -1,7 +1,8 @@
 -- How many steps a machine can still take. This project's own.
-use Rattle.std.specs.Prelude.{ℕ, zero, suc, ◌+◌, ◌-◌, ◌*◌, List, [], ◌∷◌, Option, Some, None, is_some, if◌then◌else◌}
+use Rattle.std.specs.Prelude.{ℕ, zero, suc, ◌+◌, ◌-◌, ◌*◌, List, [], ◌∷◌, Option, Some, None, if◌then◌else◌}
 use Rattle.qpu_word.specs.declared.code.TheConstants.{PROCESSORS}
 use Rattle.qpu_word.specs.Processor.{ProcessorState}
+use Rattle.qpu_dma.specs.Transfers.{TransferState}
 use Rattle.qpu_tmu.specs.declared.look_up.LookUp.{LookUp}
 use Rattle.qpu_tmu.specs.Looks.{is_waiting}
 use Rattle.qpu_word.specs.Words.{one_if}
@@ -22,14 +23,24 @@ abbrev pub waiting : List LookUp → ℕ
 waiting [] = 0
 waiting (look ∷ more) = one_if (is_waiting look) + waiting more
 
+-- how many rows of a transfer aren't moved; the row that is moved next is always there
+abbrev pub rows_left : Option TransferState → ℕ
+rows_left None = 0
+rows_left (Some t) = t.rows - (t.moved + 1) + 1
+
 -- how many moves a processor has pending
 abbrev pub moves_pending : Pending → ℕ
-moves_pending pending = one_if (is_some pending.load) + one_if (is_some pending.store) + (waiting pending.looks.looks0 + waiting pending.looks.looks1)
+moves_pending pending = rows_left pending.load + rows_left pending.store + (waiting pending.looks.looks0 + waiting pending.looks.looks1)
 
--- how many steps the actors of a processor have left at most: each instruction with the two moves
--- that it can make pending, and the moves that are pending
+-- how many moves an instruction can make pending: with its two writes it starts a load of sixteen
+-- rows and a store of 64, or one of these and a look-up
+abbrev pub moves_most : ℕ
+moves_most = 80
+
+-- how many steps the actors of a processor have left at most: each instruction with the moves that it
+-- can make pending, and the moves that are pending
 abbrev pub steps_left_of : MachineState → ℕ → ℕ
-steps_left_of m q = 3 * instructions_left m.limit (processor_of m q) + moves_pending (pending_of m.shared q)
+steps_left_of m q = (moves_most + 1) * instructions_left m.limit (processor_of m q) + moves_pending (pending_of m.shared q)
 
 -- the sum of a function of the numbers below one
 abbrev pub sum_below : (ℕ → ℕ) → ℕ → ℕ

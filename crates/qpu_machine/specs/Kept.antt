@@ -1,10 +1,12 @@
 -- What a machine keeps of each processor that goes on: a path of its program to where it stands.
 -- This project's own.
-use Rattle.std.specs.Prelude.{◌≡◌, ◌≢◌, ◌≤◌, ◌+◌, ℕ, List, length, is_some}
-use Rattle.qpu_word.specs.declared.code.TheConstants.{LOOK_UPS}
+use Rattle.std.specs.Prelude.{◌≡◌, ◌≢◌, ◌≤◌, ◌+◌, ℕ, List, length, Option, IfSome, is_some}
+use Rattle.qpu_word.specs.declared.code.TheConstants.{LOOK_UPS, VPM_ROWS}
 use Rattle.qpu_word.specs.declared.state.Halt.TheVariants.{Going}
 use Rattle.qpu_word.specs.Processor.{ProcessorState}
+use Rattle.qpu_dma.specs.Transfers.{TransferState}
 use Rattle.qpu_tmu.specs.Looks.{LookupsState}
+use Rattle.qpu_shared.specs.declared.pending.Pending.{Pending}
 use Rattle.qpu_shared.specs.SharedState.{SharedState}
 use Rattle.qpu_shared.specs.Instruction.{pending_of}
 use Rattle.qpu_hazard.specs.Paths.{IsPath, flags_defined, c_defined, outstanding_looks}
@@ -33,13 +35,22 @@ IsKeptAlone code p = (looks : LookupsState) × IsKept code p looks
 abbrev pub HasFewLooks : LookupsState → Type 0
 HasFewLooks looks = (length looks.looks0 ≤ LOOK_UPS) × (length looks.looks1 ≤ LOOK_UPS)
 
+-- a transfer, where there is one, has no more rows than lie in the VPM
+abbrev pub IsShort : Option TransferState → Type 0
+IsShort transfer = IfSome transfer (λ t. t.rows ≤ VPM_ROWS)
+
+-- no transfer that is pending has more
+abbrev pub HasFewRows : Pending → Type 0
+HasFewRows pending = IsShort pending.load × IsShort pending.store
+
 -- what a word of processor q keeps, whatever became of it: the number, a count that grows by one at
--- most, where the processor stands, few look-ups, what others have pending, and for how many there
--- is room
+-- most, where the processor stands, few look-ups and few rows, what others have pending, and for how
+-- many there is room
 pub record KeepsPath (code : List ℕ) (q : ℕ) (p : ProcessorState) (h : SharedState) (after : ProcessorState) (left : SharedState) : Type 0 where
   pub number : after.q ≡ q
   pub executed : after.executed ≤ p.executed + 1
   pub kept : IsKept code after (pending_of left q).looks
   pub few : HasFewLooks (pending_of left q).looks
+  pub rows : HasFewRows (pending_of h q) → HasFewRows (pending_of left q)
   pub others : (other : ℕ) → other ≢ q → pending_of left other ≡ pending_of h other
   pub room : length left.pending ≡ length h.pending

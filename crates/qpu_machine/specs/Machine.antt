@@ -2,9 +2,10 @@
 use Rattle.std.specs.Prelude.{◌≡◌, ℕ, Bool, List, [], replicate, fold, Option, Some, None, is_some, slice_index, slice_index_or, slice_set}
 use Rattle.qpu_word.specs.declared.code.TheConstants.{PROCESSORS}
 use Rattle.qpu_word.specs.Processor.{ProcessorState, opening_processor}
+use Rattle.qpu_dma.specs.declared.direction.Direction.TheVariants.{Load as LoadOf, Store as StoreOf}
 use Rattle.qpu_shared.specs.SharedState.{SharedState, opening_shared}
 use Rattle.qpu_shared.specs.Instruction.{Outcome, NoStep, Awaits, Faults, Done, instruction}
-use Rattle.qpu_shared.specs.Moves.{load_moved, store_moved, fetch_moved}
+use Rattle.qpu_shared.specs.Moves.{row_moved, fetch_moved}
 use Rattle.qpu_word.specs.Instruction.{halted}
 use Rattle.qpu_machine.specs.declared.actor.Actor.{Actor}
 use Rattle.qpu_machine.specs.declared.actor.Actor.TheVariants.{Exec, Load, Store, Fetch}
@@ -75,8 +76,8 @@ with_shared m (Some h) = Some (record m { shared = h })
 -- the machine after one step of an actor, none where it has no step
 unfoldable pub after_step : MachineState → Actor → Option MachineState
 after_step m (Exec q) = after_exec m q (processor_of m q)
-after_step m (Load q) = with_shared m (load_moved m.shared q)
-after_step m (Store q) = with_shared m (store_moved m.shared q)
+after_step m (Load q) = with_shared m (row_moved LoadOf m.shared q)
+after_step m (Store q) = with_shared m (row_moved StoreOf m.shared q)
 after_step m (Fetch q unit) = with_shared m (fetch_moved m.shared q unit)
 
 -- a machine becomes another by one step of an actor

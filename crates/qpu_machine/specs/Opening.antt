@@ -1,5 +1,5 @@
 -- What a machine before any step is made of, and what holds of each schedule from it. This project's own.
-use Rattle.std.specs.Prelude.{◌≡◌, ◌≢◌, ◌<◌, ◌≤◌, ℕ, ◌*◌, List, All, length, slice_index_or, []}
+use Rattle.std.specs.Prelude.{◌≡◌, ◌≢◌, ◌<◌, ◌≤◌, ℕ, ◌+◌, ◌*◌, List, All, length, slice_index_or, []}
 use Rattle.std.specs.List.{AllPairs}
 use Rattle.qpu_word.specs.declared.code.TheConstants.{PROCESSORS, LIMIT_MOST}
 use Rattle.qpu_hazard.specs.Paths.{IsClean}
@@ -8,7 +8,7 @@ use Rattle.qpu_machine.specs.declared.start.Start.{Start}
 use Rattle.qpu_machine.specs.Machine.{MachineState, machine_of}
 use Rattle.qpu_machine.specs.Sound.{IsSoundMachine}
 use Rattle.qpu_machine.specs.Schedule.{After}
-use Rattle.qpu_machine.specs.Bound.{instructions_of}
+use Rattle.qpu_machine.specs.Bound.{instructions_of, moves_most}
 use Rattle.qpu_machine.specs.TracePaths.{TracesAreClean}
 
 -- a limit, programs and starts that a machine may open with: the starts are of different processors
@@ -26,11 +26,11 @@ OpensSound =
     (memory : List ℕ) (limit : ℕ) (programs : List (List ℕ)) (starts : List Start) → MayOpen limit programs starts
     → IsSoundMachine (machine_of memory limit programs starts)
 
--- a schedule has at most the limit of instructions for each processor, and for each start three
--- steps for each of these: the instruction, and the two moves that it can make pending
+-- a schedule has at most the limit of instructions for each processor, and for each start 81 steps
+-- for each of these: the instruction, and the moves that it can make pending
 pub record IsBounded (limit started : ℕ) (s : List Actor) : Type 0 where
   pub instructions : (q : ℕ) → instructions_of s q ≤ limit
-  pub steps : length s ≤ 3 * limit * started
+  pub steps : length s ≤ (moves_most + 1) * limit * started
 
 -- each schedule that is permitted from a machine before any step is bounded
 abbrev pub BoundsSchedules : Type 0

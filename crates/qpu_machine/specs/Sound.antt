@@ -6,7 +6,7 @@ use Rattle.qpu_shared.specs.Instruction.{pending_of}
 use Rattle.qpu_hazard.specs.Paths.{IsClean}
 use Rattle.qpu_machine.specs.declared.start.Start.{Start}
 use Rattle.qpu_machine.specs.Machine.{MachineState, processor_of, words_of}
-use Rattle.qpu_machine.specs.Kept.{IsKept, HasFewLooks}
+use Rattle.qpu_machine.specs.Kept.{IsKept, HasFewLooks, HasFewRows}
 
 -- a processor that was started has its number, and a program of the list, no path of which breaks
 -- a rule; it has executed no more than the limit; and where it goes on it stands on a path of its
@@ -23,11 +23,12 @@ IsStartedAt m q None = Unit {0}
 IsStartedAt m q (Some p) = IsStarted m q p
 
 -- the limit is one of the machine's, there is room for each processor and for what it has pending,
--- no processor has too many look-ups outstanding, and each is as it should be
+-- no processor has too many look-ups or rows outstanding, and each is as it should be
 pub record IsSoundMachine (m : MachineState) : Type 0 where
   pub limit : m.limit ≤ LIMIT_MOST
   pub pending : length m.shared.pending ≡ PROCESSORS
   pub looks : (q : ℕ) → HasFewLooks (pending_of m.shared q).looks
+  pub rows : (q : ℕ) → HasFewRows (pending_of m.shared q)
   pub processors : length m.processors ≡ PROCESSORS
   pub each : (q : ℕ) → q < PROCESSORS → IsStartedAt m q (processor_of m q)
 

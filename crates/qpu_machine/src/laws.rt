@@ -40,7 +40,8 @@ pub fn traces_are_paths()
 {}
 
 /// A law: from a machine before any step on, a permitted schedule has at most the limit of
-/// instructions for each processor, and three steps for each of these in all.
+/// instructions for each processor, and 81 steps for each of these in all: the instruction, and the
+/// rows of a load, the rows of a store or the look-up that it starts.
 #[tactic(auto, using(crate::proofs::OpeningLaw::bounds_schedules))]
 pub fn schedules_are_bounded()
     ensures { BoundsSchedules }

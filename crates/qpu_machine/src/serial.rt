@@ -149,7 +149,7 @@ impl Machine {
     /// Whatever the answer, the steps that the journal has gained are permitted and no more than the
     /// machine had left, and the words that they execute go on the paths of their programs and break
     /// no rule. Where the machine was one before any step, they have at most the limit of instructions
-    /// for each processor and three steps for each of these in all, and each trace is a path of its
+    /// for each processor and 81 steps for each of these in all, and each trace is a path of its
     /// program that breaks no rule.
     pub fn run_serial(&mut self, journal: &mut Journal) -> Result<Ending, NoMemory>
         requires { steps_in journal.old < 2 ^ 63 }

@@ -50,7 +50,7 @@ impl Machine {
         true
     }
 
-    /// The move of processor q's pending load, where there is one.
+    /// The move of the next row of processor q's pending load, where there is one.
     #[tactic(auto, unfolding(crate::specs::Machine::after_step))]
     fn step_load(&mut self, q: u32) -> bool
         ensures { Took result (after_step self.old.state (Load q)) self.old self.new }
@@ -58,7 +58,7 @@ impl Machine {
         self.shared.move_load(q)
     }
 
-    /// The move of processor q's pending store, where there is one.
+    /// The move of the next row of processor q's pending store, where there is one.
     #[tactic(auto, unfolding(crate::specs::Machine::after_step))]
     fn step_store(&mut self, q: u32) -> bool
         ensures { Took result (after_step self.old.state (Store q)) self.old self.new }

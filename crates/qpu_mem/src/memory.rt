@@ -1,7 +1,11 @@
-ghost use Rattle.std.specs.Prelude.{◌≡◌, ◌<◌, ◌≤◌, ◌↔◌, ◌*◌, drop, length, take, replicate, slice_get, slice_set, IfOk, IsTrue, if◌then◌else◌, nat_lt};
+ghost use Rattle.std.specs.Prelude.{◌≡◌, ◌<◌, ◌≤◌, ◌↔◌, ◌*◌, ◌/◌, drop, length, take, replicate, slice_get, slice_set, IfOk, IsTrue, if◌then◌else◌, nat_lt};
+ghost use Rattle.qpu_word.specs.declared.code.TheConstants.{MEMORY_WORDS};
+ghost use Rattle.qpu_bytes.specs.Elements.{is_place, element, with_part};
 ghost use Rattle.qpu_mem.specs.declared.memory.TheConstants.{GROUP};
 
+use qpu_bytes::{Size, part_of, with_part_of};
 use qpu_word::NoMemory;
+use qpu_word::code::WORD_BYTES;
 use std::alloc::Global;
 use std::marker::Model;
 
@@ -23,19 +27,20 @@ pub struct Memory {
 
 impl Model for Memory {
     ghost use Rattle.std.specs.Prelude.{List, ℕ, vec_len, ◌≤◌};
+    ghost use Rattle.qpu_word.specs.declared.code.TheConstants.{MEMORY_WORDS};
 
     ghost Value = { List ℕ };
 
     ghost view = { λ memory. memory.words.items };
 
-    ghost invariant = { λ memory. vec_len memory.words ≤ 1048576 };
+    ghost invariant = { λ memory. vec_len memory.words ≤ MEMORY_WORDS };
 }
 
 impl Memory {
     /// So many words, 1 to 1,048,576, all 0. The one error is want of memory.
     pub fn new(alloc: Global, words: u32) -> Result<Memory, NoMemory>
         requires some { 1 ≤ words }
-        requires most { words ≤ 1048576 }
+        requires most { words ≤ MEMORY_WORDS }
         ensures { IfOk result (λ memory. memory ≡ replicate words 0) }
     {
         match vec![in alloc; 0u32; words as usize] {
@@ -46,7 +51,8 @@ impl Memory {
 
     /// How many words there are.
     pub fn len(&self) -> u32
-        ensures { result ≡ length self.now }
+        ensures words { result ≡ length self.now }
+        ensures most { result ≤ MEMORY_WORDS }
     {
         self.words.len() as u32
     }
@@ -62,7 +68,7 @@ impl Memory {
     /// past it have none.
     pub fn group(&self, k: u32) -> &[u32]
         ensures group { result.now ≡ take GROUP (drop (GROUP * k) self.now) }
-        ensures most { length self.now ≤ 1048576 }
+        ensures most { length self.now ≤ MEMORY_WORDS }
     {
         match self.words.get(k as usize * GROUP..) {
             Some(rest) => first_group(rest),
@@ -80,6 +86,34 @@ impl Memory {
             return false;
         }
         self.words[at as usize] = value;
+        true
+    }
+
+    /// The element at a byte address, a multiple of the size, extended with zeros; none exactly
+    /// where its word's index isn't below the length.
+    #[tactic(auto, using(qpu_bytes::proofs::Shapes::place_low))]
+    pub fn part(&self, at: u32, size: Size) -> Option<u32>
+        requires whole { IsTrue (is_place at size) }
+        ensures { result ≡ element self.now at size }
+    {
+        let word = *self.words.get((at / WORD_BYTES) as usize)?;
+        Some(part_of(word, at % WORD_BYTES, size))
+    }
+
+    /// Sets the element at a byte address, a multiple of the size, to the low bytes of a value; all
+    /// other bytes stay. False exactly where its word's index isn't below the length; then nothing
+    /// changes.
+    #[tactic(auto, using(qpu_bytes::proofs::Shapes::place_low))]
+    pub fn set_part(&mut self, at: u32, size: Size, value: u32) -> bool
+        requires whole { IsTrue (is_place at size) }
+        ensures there { IsTrue result ↔ (at / 4 < length self.old) }
+        ensures words { self.new ≡ (if nat_lt (at / 4) (length self.old) then with_part self.old at size value else self.old) }
+    {
+        let index = (at / WORD_BYTES) as usize;
+        if self.words.len() <= index {
+            return false;
+        }
+        self.words[index] = with_part_of(self.words[index], at % WORD_BYTES, size, value);
         true
     }
 

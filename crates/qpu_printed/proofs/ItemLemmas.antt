@@ -5,9 +5,9 @@ use Rattle.qpu_word.specs.declared.code.TheConstants.{TMU_UNITS}
 use Rattle.std.specs.Prelude.{nat_lt, is_some, if◌then◌else◌}
 use Rattle.std.specs.List.{AllByRecursion}
 use Rattle.std.proofs.lemmas.Bool.Decides.{nat_tests}
+use Rattle.qpu_dma.specs.declared.direction.Direction.TheVariants.{Load as LoadOf, Store as StoreOf}
 use Rattle.qpu_tmu.specs.declared.look_up.LookUp.{LookUp}
 use Rattle.qpu_word.specs.Words.{one_if}
-use Rattle.qpu_shared.specs.declared.pending.Pending.{Pending}
 use Rattle.qpu_shared.specs.SharedState.{SharedState}
 use Rattle.qpu_shared.specs.Instruction.{looks_of, pending_of}
 use Rattle.qpu_shared.specs.Moves.{after_fetch, fetched, fetch_moved}
@@ -18,10 +18,9 @@ use Rattle.qpu_machine.specs.Journal.{is_same_actor}
 use Rattle.qpu_machine.specs.Machine.{MachineState, processor_of, Step}
 use Rattle.qpu_machine.specs.Sound.{IsSoundMachine}
 use Rattle.qpu_machine.specs.Schedule.{After, here, next}
-use Rattle.qpu_machine.specs.Bound.{instructions_left, waiting, moves_pending}
+use Rattle.qpu_machine.specs.Bound.{instructions_left, moves_pending}
 use Rattle.qpu_machine.proofs.JournalLemmas.{same_is, is_same}
-use Rattle.qpu_machine.proofs.PendingLemmas.{one_most}
-use Rattle.qpu_machine.proofs.BoundLemmas.{MovesOne, moves_load, moves_store, moves_fetch, falls_exec, instructions_most}
+use Rattle.qpu_machine.proofs.BoundLemmas.{MovesOne, moves_row, moves_fetch, falls_exec, instructions_most, pending_most}
 use Rattle.qpu_machine.proofs.ScheduleLemmas.{steps_load, steps_store, steps_fetch, sound_step}
 use Rattle.qpu_machine.proofs.RunLaw.{instructions_bounded}
 use Rattle.qpu_machine.proofs.OpeningLaw.{sound_opening}
@@ -38,28 +37,12 @@ left_of m (Fetch q unit) = moves_pending (pending_of m.shared q)
 
 -- it is no more than a record's item can have
 
-waiting_most : (looks : List LookUp) → waiting looks ≤ length looks
-waiting_most [] = omega arith
-waiting_most (look ∷ more) = let rest = waiting_most more in omega (arith, rest, one_most)
-
-moves_most : (m : MachineState) (q : ℕ) → IsSoundMachine m → moves_pending (pending_of m.shared q) ≤ 10
-moves_most m q sound =
-    let pending : Pending = pending_of m.shared q in
-    let few = sound.looks q in
-    let few0 = few.0 in
-    let few1 = few.1 in
-    let first = waiting_most pending.looks.looks0 in
-    let second = waiting_most pending.looks.looks1 in
-    let load = one_most (is_some pending.load) in
-    let store = one_most (is_some pending.store) in
-    omega (arith, few0, few1, first, second, load, store)
-
 left_most : (m : MachineState) (actor : Actor) → IsSoundMachine m → left_of m actor ≤ 1000000
 unfolding left_of
 left_most m (Exec q) sound = let most = instructions_most m.limit (processor_of m q) in omega (arith, most, sound.limit)
-left_most m (Load q) sound = let most = moves_most m q sound in omega (arith, most)
-left_most m (Store q) sound = let most = moves_most m q sound in omega (arith, most)
-left_most m (Fetch q unit) sound = let most = moves_most m q sound in omega (arith, most)
+left_most m (Load q) sound = let most = pending_most m q sound in omega (arith, most)
+left_most m (Store q) sound = let most = pending_most m q sound in omega (arith, most)
+left_most m (Fetch q unit) sound = let most = pending_most m q sound in omega (arith, most)
 
 -- a step takes one of it, and is of an actor that there is
 record TakesOne (m n : MachineState) (actor : Actor) : Type 0 where
@@ -100,11 +83,11 @@ takes_one m (Exec q) n sound step = record {
 }
 takes_one m (Load q) n sound step =
     let x = steps_load m q n step in
-    let moves = moves_load m.shared q x.left x.moves in
+    let moves = moves_row LoadOf m.shared q x.left x.moves in
     record { there = low_move m q x.left sound moves; less = takes_move m n q x.left x.is moves }
 takes_one m (Store q) n sound step =
     let x = steps_store m q n step in
-    let moves = moves_store m.shared q x.left x.moves in
+    let moves = moves_row StoreOf m.shared q x.left x.moves in
     record { there = low_move m q x.left sound moves; less = takes_move m n q x.left x.is moves }
 takes_one m (Fetch q unit) n sound step =
     let x = steps_fetch m q unit n step in

@@ -5,7 +5,8 @@ use Rattle.qpu_io.specs.Text.{joined}
 use Rattle.qpu_machine.specs.declared.actor.Actor.{Actor}
 use Rattle.qpu_machine.specs.declared.actor.Actor.TheVariants.{Exec, Load, Store, Fetch}
 use Rattle.qpu_machine.specs.declared.journal.Run.{Run}
-use Rattle.qpu_record.specs.Record.{item_text, ends_line, missing_line_end, merged, runs_text, record_text}
+use Rattle.qpu_record.specs.declared.parts.Version.TheVariants.{Second}
+use Rattle.qpu_record.specs.Record.{item_text, opening_line, ends_line, missing_line_end, merged, runs_text, record_text}
 use Rattle.qpu_printed.specs.Ascii.{RecordsAreAscii}
 use Rattle.qpu_printed.proofs.AsciiLemmas.{IsLow, all_low, low_all, low_joined, low_in_turn, low_flat_map, low_unless, low_decimal}
 
@@ -21,7 +22,7 @@ pub low_runs : (job : List ℕ) (runs : List Run) → IsLow job → IsLow (runs_
 unfolding runs_text
 low_runs job runs low =
     low_in_turn
-    (codes "qpurecord 1\n" ∷ joined (codes "job " ∷ decimal (length job) ∷ codes "\n" ∷ []) ∷ job ∷ missing_line_end job ∷ codes "schedule\n" ∷ flat_map item_text runs ∷ codes "endrecord\n" ∷ [])
+    (opening_line Second ∷ joined (codes "job " ∷ decimal (length job) ∷ codes "\n" ∷ []) ∷ job ∷ missing_line_end job ∷ codes "schedule\n" ∷ flat_map item_text runs ∷ codes "endrecord\n" ∷ [])
     (refl, (low_joined (codes "job " ∷ decimal (length job) ∷ codes "\n" ∷ []) (refl, (low_decimal (length job), (refl, tt))), (low, (low_unless (ends_line job) (codes "\n") refl, (refl, (low_flat_map item_text runs (λ (run : Run). low_item run.actor run.count), (refl, tt)))))))
 
 pub records_ascii : RecordsAreAscii

@@ -6,6 +6,7 @@ use Rattle.qpu_machine.specs.Machine.{MachineState, machine_of}
 use Rattle.qpu_machine.specs.Opening.{MayOpen}
 use Rattle.qpu_machine.specs.Schedule.{After}
 use Rattle.qpu_text.specs.Lines.{line_feeds}
+use Rattle.qpu_record.specs.declared.parts.Version.TheVariants.{Second}
 use Rattle.qpu_record.specs.Reading.{record_of}
 use Rattle.qpu_record.specs.Record.{merged, record_text}
 
@@ -17,6 +18,7 @@ PrintedRecordsAreRead =
     → MayOpen limit programs starts → After (machine_of memory limit programs starts) s n
     → (job : List ℕ) → length job < 2 ^ 64 → (rest : List ℕ)
     → record_of (record_text job s ++ rest) ≡ Ok (record {
+      version = Second;
       job = job;
       runs = merged s;
       rest = rest;

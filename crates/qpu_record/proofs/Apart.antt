@@ -9,7 +9,8 @@ use Rattle.qpu_io.specs.Text.{joined, in_turn}
 use Rattle.qpu_machine.specs.declared.actor.Actor.{Actor}
 use Rattle.qpu_machine.specs.declared.actor.Actor.TheVariants.{Exec, Load, Store, Fetch}
 use Rattle.qpu_machine.specs.declared.journal.Run.{Run}
-use Rattle.qpu_record.specs.Record.{item_text, missing_line_end, merged, runs_text, record_text}
+use Rattle.qpu_record.specs.declared.parts.Version.TheVariants.{Second}
+use Rattle.qpu_record.specs.Record.{item_text, opening_line, missing_line_end, merged, runs_text, record_text}
 use Rattle.qpu_record.specs.Apart.{IsActorOf64, IsRunOf64, SpellsOneSchedule}
 
 -- a decimal digit
@@ -187,7 +188,7 @@ same_items (x ∷ xs) (y ∷ ys) fx fy e =
 same_runs : (job : List ℕ) (xs ys : List Run) → AllByRecursion IsRunOf64 xs → AllByRecursion IsRunOf64 ys → runs_text job xs ≡ runs_text job ys → xs ≡ ys
 unfolding runs_text in_turn
 same_runs job xs ys fx fy e =
-    let one = append_cancel_left (codes "qpurecord 1\n") _ _ e in
+    let one = append_cancel_left (opening_line Second) _ _ e in
     let two = append_cancel_left (joined (codes "job " ∷ decimal (length job) ∷ codes "\n" ∷ [])) _ _ one in
     let three = append_cancel_left job _ _ two in
     let four = append_cancel_left (missing_line_end job) _ _ three in

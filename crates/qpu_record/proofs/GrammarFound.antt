@@ -9,12 +9,14 @@ use Rattle.std.proofs.lemmas.Slice.Eq.{bytes_eq-Decides, starts_is}
 use Rattle.qpu_machine.specs.declared.journal.Run.{Run}
 use Rattle.qpu_record.specs.declared.fault.RecordFault.{RecordFault}
 use Rattle.qpu_record.specs.declared.fault.RecordFault.TheVariants as fault
-use Rattle.qpu_record.specs.Record.{item_text, ends_line, missing_line_end}
+use Rattle.qpu_record.specs.declared.parts.Version.{Version}
+use Rattle.qpu_record.specs.declared.parts.Version.TheVariants.{First, Second}
+use Rattle.qpu_record.specs.Record.{item_text, opening_line, ends_line, missing_line_end}
 use Rattle.qpu_text.specs.Bytes.{LF, is_lf}
 use Rattle.qpu_text.specs.Lines.{first_line}
 use Rattle.qpu_record.specs.Numbers.{number_of}
 use Rattle.qpu_record.specs.Items.{item_at}
-use Rattle.qpu_record.specs.Heading.{Heading, and_then, or_line, that_fit, line_behind, begins_lf, opening, size_line, job_part, schedule_line, with_schedule, with_job, heading_of}
+use Rattle.qpu_record.specs.Heading.{Heading, JobPart, and_then, or_line, with_line_end, headed, that_fit, line_behind, begins_lf, opening, size_line, job_part, schedule_line, with_schedule, with_job, heading_of}
 use Rattle.qpu_record.specs.Reading.{Schedule, Parts, parts_with, is_end, ended, open_item, schedule_of, after_heading, record_of}
 use Rattle.qpu_record.specs.Grammar.{IsItem, put, IsBehind, nothing, line_end, IsRecord, ReadsRecordsAlone}
 use Rattle.qpu_record.proofs.GrammarLemmas.{item_ends}
@@ -33,21 +35,32 @@ line_of text word is found =
 
 -- the first line
 
-opening_by : (text rest : List ℕ) (begins is found : Bool) → bytes_eq (first_line text).front (codes "qpurecord 1") ≡ is → (first_line text).found ≡ found
-    → ◌≡◌ {A = Result (List ℕ) RecordFault}
-    (if begins then (if is then (if found then Ok (first_line text).rest else Err (fault.Line 1)) else Err fault.Version) else Err (fault.Line 1)) (Ok rest)
-    → text ≡ codes "qpurecord 1\n" ++ rest
-opening_by text rest true true true is found e =
-    let behind : (first_line text).rest ≡ rest = cc in
-    line_of text (codes "qpurecord 1") is found ∙ ap (λ (t : List ℕ). codes "qpurecord 1\n" ++ t) behind
-opening_by text rest true true false is found e = absurd (cc)
-opening_by text rest true false found is f e = absurd (cc)
-opening_by text rest false b found is f e = absurd (cc)
+record IsOpened (text : List ℕ) (opened : Version × List ℕ) : Type 0 where
+  pub written : text ≡ opening_line opened.0 ++ opened.1
 
-opening_found : (text rest : List ℕ) → opening text ≡ Ok rest → text ≡ codes "qpurecord 1\n" ++ rest
+opening_one : (text word : List ℕ) (version : Version) (opened : Version × List ℕ) (found : Bool) → word ++ LF ∷ [] ≡ opening_line version → bytes_eq (first_line text).front word ≡ true → (first_line text).found ≡ found
+    → ◌≡◌ {A = Result (Version × List ℕ) RecordFault} (if found then Ok (version, (first_line text).rest) else Err (fault.Line 1)) (Ok opened) → IsOpened text opened
+opening_one text word version opened true spelt is found e =
+    let same : ◌≡◌ {A = Version × List ℕ} (version, (first_line text).rest) opened = cc in
+    let rest = (first_line text).rest in
+    subst (IsOpened text) same
+    (record { written = line_of text word is found ∙ sym (append_assoc word (LF ∷ []) rest) ∙ ap (λ (t : List ℕ). t ++ rest) spelt })
+opening_one text word version opened false spelt is found e = absurd (cc)
+
+opening_by : (text : List ℕ) (opened : Version × List ℕ) (begins one two : Bool) → bytes_eq (first_line text).front (codes "qpurecord 1") ≡ one → bytes_eq (first_line text).front (codes "qpurecord 2") ≡ two
+    → ◌≡◌ {A = Result (Version × List ℕ) RecordFault}
+    (if begins then and_then (if one then Ok First else if two then Ok Second else Err fault.Version) (with_line_end (first_line text)) else Err (fault.Line 1)) (Ok opened)
+    → IsOpened text opened
+opening_by text opened true true two is other e = opening_one text (codes "qpurecord 1") First opened (first_line text).found refl is refl e
+opening_by text opened true false true other is e = opening_one text (codes "qpurecord 2") Second opened (first_line text).found refl is refl e
+opening_by text opened true false false a b e = absurd (cc)
+opening_by text opened false one two a b e = absurd (cc)
+
+opening_found : (text : List ℕ) (opened : Version × List ℕ) → opening text ≡ Ok opened → IsOpened text opened
 unfolding opening
-opening_found text rest e =
-    opening_by text rest (starts_with nat_eq (first_line text).front (codes "qpurecord ")) (bytes_eq (first_line text).front (codes "qpurecord 1")) (first_line text).found refl refl e
+opening_found text opened e =
+    opening_by text opened (starts_with nat_eq (first_line text).front (codes "qpurecord ")) (bytes_eq (first_line text).front (codes "qpurecord 1"))
+    (bytes_eq (first_line text).front (codes "qpurecord 2")) refl refl e
 
 -- the second line
 
@@ -97,34 +110,34 @@ line_given number (Some b) a e = cc
 
 -- the job
 
-pub record IsJobPart (size : ℕ) (text : List ℕ) (heading : Heading) : Type 0 where
-  pub written : text ≡ heading.job ++ (missing_line_end heading.job ++ heading.rest)
-  pub long : size ≡ length heading.job
-  pub line : heading.number ≡ line_behind heading.job + length (missing_line_end heading.job)
+pub record IsJobPart (size : ℕ) (text : List ℕ) (part : JobPart) : Type 0 where
+  pub written : text ≡ part.job ++ (missing_line_end part.job ++ part.rest)
+  pub long : size ≡ length part.job
+  pub line : part.number ≡ line_behind part.job + length (missing_line_end part.job)
 
 begins_with : (text : List ℕ) → begins_lf text ≡ true → text ≡ LF ∷ drop 1 text
 begins_with [] e = absurd (cc)
 begins_with (byte ∷ text) e = ap (λ (b : ℕ). b ∷ text) (eqb-true byte LF e)
 
-job_by : (size : ℕ) (text job behind : List ℕ) (heading : Heading) (ends begins : Bool) → text ≡ job ++ behind → size ≡ length job → ends_line job ≡ ends → begins_lf behind ≡ begins
-    → ◌≡◌ {A = Result Heading RecordFault}
+job_by : (size : ℕ) (text job behind : List ℕ) (part : JobPart) (ends begins : Bool) → text ≡ job ++ behind → size ≡ length job → ends_line job ≡ ends → begins_lf behind ≡ begins
+    → ◌≡◌ {A = Result JobPart RecordFault}
     (if ends then Ok (record { job = job; rest = behind; number = line_behind job })
     else if begins then Ok (record { job = job; rest = drop 1 behind; number = line_behind job + 1 })
-    else Err (fault.Line (line_behind job))) (Ok heading)
-    → IsJobPart size text heading
-job_by size text job behind heading true begins split long is b e =
-    let same : ◌≡◌ {A = Heading} (record { job = job; rest = behind; number = line_behind job }) heading = cc in
+    else Err (fault.Line (line_behind job))) (Ok part)
+    → IsJobPart size text part
+job_by size text job behind part true begins split long is b e =
+    let same : ◌≡◌ {A = JobPart} (record { job = job; rest = behind; number = line_behind job }) part = cc in
     subst (IsJobPart size text) same (record { written = rw is split; long = long; line = rw is (omega arith) })
-job_by size text job behind heading false true split long is b e =
-    let same : ◌≡◌ {A = Heading} (record { job = job; rest = drop 1 behind; number = line_behind job + 1 }) heading = cc in
+job_by size text job behind part false true split long is b e =
+    let same : ◌≡◌ {A = JobPart} (record { job = job; rest = drop 1 behind; number = line_behind job + 1 }) part = cc in
     subst (IsJobPart size text) same
     (record { written = rw is (split ∙ ap (λ (t : List ℕ). job ++ t) (begins_with behind b)); long = long; line = rw is refl })
-job_by size text job behind heading false false split long is b e = absurd (cc)
+job_by size text job behind part false false split long is b e = absurd (cc)
 
-job_found : (size : ℕ) (text : List ℕ) (heading : Heading) → size ≤ length text → job_part size text ≡ Ok heading → IsJobPart size text heading
+job_found : (size : ℕ) (text : List ℕ) (part : JobPart) → size ≤ length text → job_part size text ≡ Ok part → IsJobPart size text part
 unfolding job_part
-job_found size text heading fits e =
-    job_by size text (take size text) (drop size text) heading (ends_line (take size text)) (begins_lf (drop size text)) (sym (take-append-drop size text))
+job_found size text part fits e =
+    job_by size text (take size text) (drop size text) part (ends_line (take size text)) (begins_lf (drop size text)) (sym (take-append-drop size text))
     (omega (arith, length-take size text, fits)) refl refl e
 
 -- the line `schedule`
@@ -144,50 +157,53 @@ schedule_line_found number text rest e =
 
 -- all that stands before the items
 
-abbrev heading_text : List ℕ → List ℕ → List ℕ
-heading_text job rest =
-    codes "qpurecord 1\n" ++ (codes "job " ++ (decimal (length job) ++ LF ∷ (job ++ (missing_line_end job ++ (codes "schedule\n" ++ rest)))))
+abbrev heading_text : Version → List ℕ → List ℕ → List ℕ
+heading_text version job rest =
+    opening_line version ++ (codes "job " ++ (decimal (length job) ++ LF ∷ (job ++ (missing_line_end job ++ (codes "schedule\n" ++ rest)))))
 
 pub record IsHeading (text : List ℕ) (heading : Heading) : Type 0 where
-  pub written : text ≡ heading_text heading.job heading.rest
+  pub written : text ≡ heading_text heading.version heading.job heading.rest
   pub line : heading.number ≡ line_of_items heading.job
   pub fits : length heading.job < 2 ^ 64
 
-heading_join : (text opened : List ℕ) (size : ℕ) (sized : List ℕ) (part : Heading) (rest : List ℕ) → length text < 2 ^ 64 → text ≡ codes "qpurecord 1\n" ++ opened
-    → IsSizeLine opened size sized → IsJobPart size sized part → part.rest ≡ codes "schedule\n" ++ rest
-    → IsHeading text (record { job = part.job; rest = rest; number = part.number + 1 })
+heading_join : (text : List ℕ) (opened : Version × List ℕ) (size : ℕ) (sized : List ℕ) (part : JobPart) (rest : List ℕ) → length text < 2 ^ 64 → text ≡ opening_line opened.0 ++ opened.1
+    → IsSizeLine opened.1 size sized → IsJobPart size sized part → part.rest ≡ codes "schedule\n" ++ rest → IsHeading text (headed opened.0 part rest)
 heading_join text opened size sized part rest small first second third last = record {
   written =
-      first ∙ ap (λ (t : List ℕ). codes "qpurecord 1\n" ++ t) (second.written ∙ rw (third.long, third.written, last) refl);
+      first ∙ ap (λ (t : List ℕ). opening_line opened.0 ++ t) (second.written ∙ rw (third.long, third.written, last) refl);
   line = omega (arith, third.line);
   fits =
       let a = ap (λ (t : List ℕ). length t) first in
-      let b = ap (λ (t : List ℕ). length t) second.written in
-      let c = length-append (decimal size) (LF ∷ sized) in
-      let d = second.fits in
-      omega (arith, small, a, b, c, d, third.long);
+      let b = length-append (opening_line opened.0) opened.1 in
+      let c = ap (λ (t : List ℕ). length t) second.written in
+      let d = length-append (decimal size) (LF ∷ sized) in
+      omega (arith, small, a, b, c, d, second.fits, third.long);
 }
 
-heading_same : (text opened : List ℕ) (size : ℕ) (sized : List ℕ) (part heading : Heading) (rest : List ℕ) → length text < 2 ^ 64 → text ≡ codes "qpurecord 1\n" ++ opened
-    → IsSizeLine opened size sized → IsJobPart size sized part → part.rest ≡ codes "schedule\n" ++ rest
-    → ◌≡◌ {A = Result Heading RecordFault} (Ok (record { job = part.job; rest = rest; number = part.number + 1 })) (Ok heading) → IsHeading text heading
+heading_same : (text : List ℕ) (opened : Version × List ℕ) (size : ℕ) (sized : List ℕ) (part : JobPart) (heading : Heading) (rest : List ℕ) → length text < 2 ^ 64 → text ≡ opening_line opened.0 ++ opened.1
+    → IsSizeLine opened.1 size sized → IsJobPart size sized part → part.rest ≡ codes "schedule\n" ++ rest
+    → ◌≡◌ {A = Result Heading RecordFault} (Ok (headed opened.0 part rest)) (Ok heading) → IsHeading text heading
 heading_same text opened size sized part heading rest small first second third last e =
-    let same : ◌≡◌ {A = Heading} (record { job = part.job; rest = rest; number = part.number + 1 }) heading = cc in
+    let same : ◌≡◌ {A = Heading} (headed opened.0 part rest) heading = cc in
     subst (IsHeading text) same (heading_join text opened size sized part rest small first second third last)
+
+opened_short : (text : List ℕ) (opened : Version × List ℕ) → length text < 2 ^ 64 → text ≡ opening_line opened.0 ++ opened.1 → length opened.1 < 2 ^ 64
+opened_short text opened small is =
+    omega (arith, small, ap (λ (t : List ℕ). length t) is, length-append (opening_line opened.0) opened.1)
 
 heading_found : (text : List ℕ) (heading : Heading) → length text < 2 ^ 64 → heading_of text ≡ Ok heading → IsHeading text heading
 unfolding heading_of
 heading_found text heading small e =
     let first = goes_on (opening text) with_job heading e in
     let opened = opening_found text first.0 first.1 in
-    let below : length first.0 < 2 ^ 64 = omega (arith, small, ap (λ (t : List ℕ). length t) opened) in
-    let second = goes_on (or_line 2 (size_line first.0)) (λ (sized : ℕ × List ℕ). and_then (job_part sized.0 sized.1) with_schedule) heading first.2 in
-    let size = size_found first.0 second.0 below (line_given 2 (size_line first.0) second.0 second.1) in
-    let third = goes_on (job_part second.0.0 second.0.1) with_schedule heading second.2 in
+    let below = opened_short text first.0 small opened.written in
+    let second = goes_on (or_line 2 (size_line first.0.1)) (λ (sized : ℕ × List ℕ). and_then (job_part sized.0 sized.1) (with_schedule first.0.0)) heading first.2 in
+    let size = size_found first.0.1 second.0 below (line_given 2 (size_line first.0.1) second.0 second.1) in
+    let third = goes_on (job_part second.0.0 second.0.1) (with_schedule first.0.0) heading second.2 in
     let job = job_found second.0.0 second.0.1 third.0 size.fits third.1 in
-    let last = goes_on (schedule_line third.0.number third.0.rest) (λ (rest : List ℕ). Ok (record { job = third.0.job; rest = rest; number = third.0.number + 1 })) heading third.2 in
+    let last = goes_on (schedule_line third.0.number third.0.rest) (λ (rest : List ℕ). Ok (headed first.0.0 third.0 rest)) heading third.2 in
     let line = schedule_line_found third.0.number third.0.rest last.0 last.1 in
-    heading_same text first.0 second.0.0 second.0.1 third.0 heading last.0 small opened size job line last.2
+    heading_same text first.0 second.0.0 second.0.1 third.0 heading last.0 small opened.written size job line last.2
 
 -- the items
 
@@ -263,16 +279,16 @@ items_found number runs line (byte ∷ text) schedule e =
 
 -- the whole
 
-whole : (text : List ℕ) (heading : Heading) (schedule : Schedule) → IsHeading text heading → AreItems heading.number [] heading.rest schedule → IsRecord text (parts_with heading.job schedule)
+whole : (text : List ℕ) (heading : Heading) (schedule : Schedule) → IsHeading text heading → AreItems heading.number [] heading.rest schedule → IsRecord text (parts_with heading schedule)
 whole text heading schedule head are = record {
   items = are.items;
   ranges = are.ranges;
   behind = are.behind;
   written =
-      head.written ∙ ap (λ (t : List ℕ). heading_text heading.job t) are.written ∙ sym (front_grouped heading.job are.items are.behind);
+      head.written ∙ ap (λ (t : List ℕ). heading_text heading.version heading.job t) are.written ∙ sym (front_grouped heading.version heading.job are.items are.behind);
   followed = are.followed;
   together = are.together;
-  line = omega (arith, are.line, head.line, feeds_front heading.job are.items head.fits are.ranges);
+  line = omega (arith, are.line, head.line, feeds_front heading.version heading.job are.items head.fits are.ranges);
 }
 
 pub records_alone : ReadsRecordsAlone
@@ -280,7 +296,7 @@ unfolding record_of
 records_alone text parts fits e =
     let first = goes_on (heading_of text) after_heading parts e in
     let head = heading_found text first.0 fits first.1 in
-    let second = goes_on (schedule_of first.0.number [] [] first.0.rest) (λ (schedule : Schedule). Ok (parts_with first.0.job schedule)) parts first.2 in
+    let second = goes_on (schedule_of first.0.number [] [] first.0.rest) (λ (schedule : Schedule). Ok (parts_with first.0 schedule)) parts first.2 in
     let are = items_found first.0.number [] [] first.0.rest second.0 second.1 in
-    let same : ◌≡◌ {A = Parts} (parts_with first.0.job second.0) parts = cc in
+    let same : ◌≡◌ {A = Parts} (parts_with first.0 second.0) parts = cc in
     subst (IsRecord text) same (whole text first.0 second.0 head are)

@@ -11,7 +11,9 @@ use Rattle.qpu_machine.specs.declared.actor.Actor.{Actor}
 use Rattle.qpu_machine.specs.declared.journal.Run.{Run}
 use Rattle.qpu_machine.specs.Journal.{IsMerged, is_same_actor, pushed}
 use Rattle.qpu_machine.proofs.JournalLemmas.{not_of}
-use Rattle.qpu_record.specs.Record.{item_text, ends_line, missing_line_end, merged, runs_text, record_text}
+use Rattle.qpu_record.specs.declared.parts.Version.{Version}
+use Rattle.qpu_record.specs.declared.parts.Version.TheVariants.{First, Second}
+use Rattle.qpu_record.specs.Record.{item_text, opening_line, ends_line, missing_line_end, merged, runs_text, record_text}
 use Rattle.qpu_text.specs.Bytes.{LF, is_lf}
 use Rattle.qpu_text.specs.Lines.{cut_at, line_feeds}
 use Rattle.qpu_record.specs.Heading.{line_behind, opening, size_line, job_part, schedule_line, heading_of}
@@ -24,9 +26,10 @@ use Rattle.qpu_record.proofs.GrammarLemmas.{Lacks, cut_behind, cut_nowhere, numb
 
 -- what stands before the items
 
-opening_read : (rest : List ℕ) → opening (codes "qpurecord 1\n" ++ rest) ≡ Ok rest
+opening_read : (version : Version) (rest : List ℕ) → opening (opening_line version ++ rest) ≡ Ok (version, rest)
 unfolding opening cut_at
-opening_read rest = refl
+opening_read First rest = refl
+opening_read Second rest = refl
 
 size_read : (n : ℕ) (rest : List ℕ) → n ≤ length rest → n < 2 ^ 64 → size_line (codes "job " ++ (decimal n ++ LF ∷ rest)) ≡ Some (n, rest)
 unfolding size_line
@@ -51,15 +54,15 @@ schedule_read number rest = refl
 abbrev pub line_of_items : List ℕ → ℕ
 line_of_items job = line_behind job + length (missing_line_end job) + 1
 
-heading_read : (job rest : List ℕ) → length job < 2 ^ 64
-    → heading_of (codes "qpurecord 1\n" ++ (codes "job " ++ (decimal (length job) ++ LF ∷ (job ++ (missing_line_end job ++ (codes "schedule\n" ++ rest))))))
-    ≡ Ok (record { job = job; rest = rest; number = line_of_items job })
+heading_read : (version : Version) (job rest : List ℕ) → length job < 2 ^ 64
+    → heading_of (opening_line version ++ (codes "job " ++ (decimal (length job) ++ LF ∷ (job ++ (missing_line_end job ++ (codes "schedule\n" ++ rest))))))
+    ≡ Ok (record { version = version; job = job; rest = rest; number = line_of_items job })
 unfolding heading_of
-heading_read job rest fits =
+heading_read version job rest fits =
     let behind = missing_line_end job ++ (codes "schedule\n" ++ rest) in
     let within : length job ≤ length (job ++ behind) = omega (arith, length-append job behind) in
     rw (
-      opening_read (codes "job " ++ (decimal (length job) ++ LF ∷ (job ++ behind))),
+      opening_read version (codes "job " ++ (decimal (length job) ++ LF ∷ (job ++ behind))),
       size_read (length job) (job ++ behind) within fits,
       job_by job (codes "schedule\n" ++ rest) (ends_line job) refl,
       schedule_read (line_behind job + length (missing_line_end job)) rest,
@@ -121,10 +124,15 @@ feeds_missing_by job false is = rw is refl
 feeds_size : (n : ℕ) → n < 2 ^ 64 → line_feeds (codes "job " ++ (decimal n ++ LF ∷ [])) ≡ 1
 feeds_size n fits = feeds_line (codes "job " ++ decimal n) [] (number_lacks LF n (omega arith) fits)
 
-pub feeds_front : (job : List ℕ) (items : List Run) → length job < 2 ^ 64 → AllByRecursion IsItem items → line_feeds (front_text job items) + 2 ≡ line_of_items job + length items + 1
+feeds_opening : (version : Version) → line_feeds (opening_line version) ≡ 1
+feeds_opening First = refl
+feeds_opening Second = refl
+
+pub feeds_front : (version : Version) (job : List ℕ) (items : List Run) → length job < 2 ^ 64 → AllByRecursion IsItem items
+    → line_feeds (front_text version job items) + 2 ≡ line_of_items job + length items + 1
 unfolding front_text in_turn
-feeds_front job items fits ranges =
-    let a = codes "qpurecord 1\n" in
+feeds_front version job items fits ranges =
+    let a = opening_line version in
     let b = codes "job " ++ (decimal (length job) ++ LF ∷ []) in
     let c = missing_line_end job in
     let d = codes "schedule\n" in
@@ -132,6 +140,7 @@ feeds_front job items fits ranges =
     let f = codes "endrecord" in
     omega (
       arith,
+      feeds_opening version,
       feeds_more a (b ++ (job ++ (c ++ (d ++ (e ++ f))))),
       feeds_more b (job ++ (c ++ (d ++ (e ++ f)))),
       feeds_more job (c ++ (d ++ (e ++ f))),
@@ -151,43 +160,45 @@ regroup a b c d e f g r = simp append_assoc
 size_regroup : (n r : List ℕ) → (codes "job " ++ (n ++ LF ∷ [])) ++ r ≡ codes "job " ++ (n ++ LF ∷ r)
 size_regroup n r = simp append_assoc
 
-pub front_grouped : (job : List ℕ) (items : List Run) (behind : List ℕ) → front_text job items ++ behind
-    ≡ codes "qpurecord 1\n" ++ (codes "job " ++ (decimal (length job) ++ LF ∷ (job ++ (missing_line_end job ++ (codes "schedule\n" ++ (flat_map item_text items ++ (codes "endrecord" ++ behind)))))))
+pub front_grouped : (version : Version) (job : List ℕ) (items : List Run) (behind : List ℕ) → front_text version job items ++ behind
+    ≡ opening_line version ++ (codes "job " ++ (decimal (length job) ++ LF ∷ (job ++ (missing_line_end job ++ (codes "schedule\n" ++ (flat_map item_text items ++ (codes "endrecord" ++ behind)))))))
 unfolding front_text in_turn
-front_grouped job items behind =
-    regroup (codes "qpurecord 1\n") (codes "job " ++ (decimal (length job) ++ LF ∷ [])) job (missing_line_end job) (codes "schedule\n") (flat_map item_text items) (codes "endrecord") behind
-    ∙ ap (λ (t : List ℕ). codes "qpurecord 1\n" ++ t) (size_regroup (decimal (length job)) _)
+front_grouped version job items behind =
+    regroup (opening_line version) (codes "job " ++ (decimal (length job) ++ LF ∷ [])) job (missing_line_end job) (codes "schedule\n") (flat_map item_text items) (codes "endrecord") behind
+    ∙ ap (λ (t : List ℕ). opening_line version ++ t) (size_regroup (decimal (length job)) _)
 
-pub record_read : (job : List ℕ) (items : List Run) (behind rest : List ℕ) → length job < 2 ^ 64 → AllByRecursion IsItem items → IsBehind behind rest
-    → record_of (front_text job items ++ behind) ≡ Ok (record { job = job; runs = put_together items; rest = rest; rest_line = line_feeds (front_text job items) + 2 })
+pub record_read : (version : Version) (job : List ℕ) (items : List Run) (behind rest : List ℕ) → length job < 2 ^ 64 → AllByRecursion IsItem items → IsBehind behind rest
+    → record_of (front_text version job items ++ behind)
+    ≡ Ok (record { version = version; job = job; runs = put_together items; rest = rest; rest_line = line_feeds (front_text version job items) + 2 })
 unfolding record_of
-record_read job items behind rest fits ranges is =
+record_read version job items behind rest fits ranges is =
     rw (
-      front_grouped job items behind,
-      heading_read job (flat_map item_text items ++ (codes "endrecord" ++ behind)) fits,
+      front_grouped version job items behind,
+      heading_read version job (flat_map item_text items ++ (codes "endrecord" ++ behind)) fits,
       items_read items (line_of_items job) [] behind rest ranges is,
     )
-    (ap (λ (k : ℕ). Ok (record { job = job; runs = put_together items; rest = rest; rest_line = k })) (sym (feeds_front job items fits ranges)))
+    (ap (λ (k : ℕ). Ok (record { version = version; job = job; runs = put_together items; rest = rest; rest_line = k })) (sym (feeds_front version job items fits ranges)))
 
-job_within : (job : List ℕ) (items : List Run) (behind : List ℕ) → length job ≤ length (front_text job items ++ behind)
-job_within job items behind =
+job_within : (version : Version) (job : List ℕ) (items : List Run) (behind : List ℕ) → length job ≤ length (front_text version job items ++ behind)
+job_within version job items behind =
     let tail = missing_line_end job ++ (codes "schedule\n" ++ (flat_map item_text items ++ (codes "endrecord" ++ behind))) in
-    let front = codes "qpurecord 1\n" ++ (codes "job " ++ (decimal (length job) ++ LF ∷ [])) in
-    let split : front_text job items ++ behind ≡ front ++ (job ++ tail) =
-    front_grouped job items behind
-    ∙ ap (λ (t : List ℕ). codes "qpurecord 1\n" ++ t) (sym (size_regroup (decimal (length job)) (job ++ tail))) in
+    let front = opening_line version ++ (codes "job " ++ (decimal (length job) ++ LF ∷ [])) in
+    let split : front_text version job items ++ behind ≡ front ++ (job ++ tail) =
+    front_grouped version job items behind
+    ∙ (ap (λ (t : List ℕ). opening_line version ++ t) (sym (size_regroup (decimal (length job)) (job ++ tail)))
+    ∙ sym (append_assoc (opening_line version) (codes "job " ++ (decimal (length job) ++ LF ∷ [])) (job ++ tail))) in
     rw split (omega (arith, length-append front (job ++ tail), length-append job tail))
 
 same_parts : (parts : Parts) (runs : List Run) (line : ℕ) → parts.runs ≡ runs → parts.rest_line ≡ line
-    → ◌≡◌ {A = Parts} (record { job = parts.job; runs = runs; rest = parts.rest; rest_line = line }) parts
+    → ◌≡◌ {A = Parts} (record { version = parts.version; job = parts.job; runs = runs; rest = parts.rest; rest_line = line }) parts
 same_parts parts runs line a b =
-    ap (λ (r : List Run). record { job = parts.job; runs = r; rest = parts.rest; rest_line = line }) (sym a)
-    ∙ ap (λ (k : ℕ). record { job = parts.job; runs = parts.runs; rest = parts.rest; rest_line = k }) (sym b)
+    ap (λ (r : List Run). record { version = parts.version; job = parts.job; runs = r; rest = parts.rest; rest_line = line }) (sym a)
+    ∙ ap (λ (k : ℕ). record { version = parts.version; job = parts.job; runs = parts.runs; rest = parts.rest; rest_line = k }) (sym b)
 
 pub every_record : ReadsEveryRecord
 every_record text parts fits is =
-    let within : length parts.job ≤ length text = rw is.written (job_within parts.job is.items is.behind) in
-    let read = record_read parts.job is.items is.behind parts.rest (omega (arith, within, fits)) is.ranges is.followed in
+    let within : length parts.job ≤ length text = rw is.written (job_within parts.version parts.job is.items is.behind) in
+    let read = record_read parts.version parts.job is.items is.behind parts.rest (omega (arith, within, fits)) is.ranges is.followed in
     rw (is.written, read) (ap (λ (p : Parts). Ok p) (same_parts parts _ _ is.together is.line))
 
 -- merged runs stay as they are
@@ -216,25 +227,25 @@ stays (run ∷ runs) all = put_behind runs [] run all
 -- a record that was written
 
 runs_grouped : (job : List ℕ) (items : List Run) (rest : List ℕ) → runs_text job items ++ rest
-    ≡ codes "qpurecord 1\n" ++ (codes "job " ++ (decimal (length job) ++ LF ∷ (job ++ (missing_line_end job ++ (codes "schedule\n" ++ (flat_map item_text items ++ (codes "endrecord" ++ LF ∷ rest)))))))
+    ≡ opening_line Second ++ (codes "job " ++ (decimal (length job) ++ LF ∷ (job ++ (missing_line_end job ++ (codes "schedule\n" ++ (flat_map item_text items ++ (codes "endrecord" ++ LF ∷ rest)))))))
 unfolding runs_text in_turn
 runs_grouped job items rest =
-    regroup (codes "qpurecord 1\n") (codes "job " ++ (decimal (length job) ++ LF ∷ [])) job (missing_line_end job) (codes "schedule\n") (flat_map item_text items) (codes "endrecord\n") rest
-    ∙ ap (λ (t : List ℕ). codes "qpurecord 1\n" ++ t) (size_regroup (decimal (length job)) _)
+    regroup (opening_line Second) (codes "job " ++ (decimal (length job) ++ LF ∷ [])) job (missing_line_end job) (codes "schedule\n") (flat_map item_text items) (codes "endrecord\n") rest
+    ∙ ap (λ (t : List ℕ). opening_line Second ++ t) (size_regroup (decimal (length job)) _)
 
-runs_front : (job : List ℕ) (items : List Run) (rest : List ℕ) → runs_text job items ++ rest ≡ front_text job items ++ LF ∷ rest
-runs_front job items rest = runs_grouped job items rest ∙ sym (front_grouped job items (LF ∷ rest))
+runs_front : (job : List ℕ) (items : List Run) (rest : List ℕ) → runs_text job items ++ rest ≡ front_text Second job items ++ LF ∷ rest
+runs_front job items rest = runs_grouped job items rest ∙ sym (front_grouped Second job items (LF ∷ rest))
 
-feeds_runs : (job : List ℕ) (items : List Run) → 1 + line_feeds (runs_text job items) ≡ line_feeds (front_text job items) + 2
+feeds_runs : (job : List ℕ) (items : List Run) → 1 + line_feeds (runs_text job items) ≡ line_feeds (front_text Second job items) + 2
 feeds_runs job items =
     let same = sym (append-nil (runs_text job items)) ∙ runs_front job items [] in
     let all = ap (λ (t : List ℕ). line_feeds t) same in
-    omega (arith, all, feeds_more (front_text job items) (LF ∷ []), feeds_first LF [])
+    omega (arith, all, feeds_more (front_text Second job items) (LF ∷ []), feeds_first LF [])
 
 pub records_are_read : RecordsAreRead
 unfolding record_text
 records_are_read job s rest fits ranges =
-    let read = record_read job (merged s) (LF ∷ rest) rest fits ranges (line_end rest) in
+    let read = record_read Second job (merged s) (LF ∷ rest) rest fits ranges (line_end rest) in
     let together = stays (merged s) (is_merged s) in
     rw (runs_front job (merged s) rest, read, together)
-    (ap (λ (k : ℕ). Ok (record { job = job; runs = merged s; rest = rest; rest_line = k })) (sym (feeds_runs job (merged s))))
+    (ap (λ (k : ℕ). Ok (record { version = Second; job = job; runs = merged s; rest = rest; rest_line = k })) (sym (feeds_runs job (merged s))))

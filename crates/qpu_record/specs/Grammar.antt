@@ -10,7 +10,9 @@ use Rattle.qpu_machine.specs.Journal.{pushed}
 use Rattle.qpu_record.specs.declared.item.TheConstants.{MOST_COUNT, MOST_PROCESSOR, MOST_UNIT}
 use Rattle.qpu_text.specs.Bytes.{LF}
 use Rattle.qpu_text.specs.Lines.{line_feeds}
-use Rattle.qpu_record.specs.Record.{item_text, missing_line_end, merged, record_text}
+use Rattle.qpu_record.specs.declared.parts.Version.{Version}
+use Rattle.qpu_record.specs.declared.parts.Version.TheVariants.{Second}
+use Rattle.qpu_record.specs.Record.{item_text, opening_line, missing_line_end, merged, record_text}
 use Rattle.qpu_record.specs.Reading.{Parts, record_of}
 
 -- the ranges of an item's numbers
@@ -32,11 +34,11 @@ put runs run = pushed runs run.actor run.count
 abbrev pub put_together : List Run → List Run
 put_together items = fold put [] items
 
--- a record up to the word `endrecord`
-unfoldable pub front_text : List ℕ → List Run → List ℕ
-front_text job items =
+-- a record of a version up to the word `endrecord`
+unfoldable pub front_text : Version → List ℕ → List Run → List ℕ
+front_text version job items =
     in_turn
-    (codes "qpurecord 1\n"
+    (opening_line version
     ∷ joined (codes "job " ∷ decimal (length job) ∷ codes "\n" ∷ [])
     ∷ job
     ∷ missing_line_end job
@@ -55,10 +57,10 @@ pub record IsRecord (text : List ℕ) (parts : Parts) : Type 0 where
   pub items : List Run
   pub ranges : AllByRecursion IsItem items
   pub behind : List ℕ
-  pub written : text ≡ front_text parts.job items ++ behind
+  pub written : text ≡ front_text parts.version parts.job items ++ behind
   pub followed : IsBehind behind parts.rest
   pub together : parts.runs ≡ put_together items
-  pub line : parts.rest_line ≡ line_feeds (front_text parts.job items) + 2
+  pub line : parts.rest_line ≡ line_feeds (front_text parts.version parts.job items) + 2
 
 -- what is read is a record
 abbrev pub ReadsRecordsAlone : Type 0
@@ -70,11 +72,12 @@ abbrev pub ReadsEveryRecord : Type 0
 ReadsEveryRecord =
     (text : List ℕ) (parts : Parts) → length text < 2 ^ 64 → IsRecord text parts → record_of text ≡ Ok parts
 
--- a record that was written of a job and a schedule gives them back, whatever follows it
+-- a record that was written of a job and a schedule gives them back, and version 2, whatever follows it
 abbrev pub RecordsAreRead : Type 0
 RecordsAreRead =
     (job : List ℕ) (s : List Actor) (rest : List ℕ) → length job < 2 ^ 64 → AllByRecursion IsItem (merged s)
     → record_of (record_text job s ++ rest) ≡ Ok (record {
+      version = Second;
       job = job;
       runs = merged s;
       rest = rest;

@@ -5,6 +5,7 @@ use Rattle.qpu_machine.specs.Journal.{pushed}
 use Rattle.qpu_record.specs.declared.fault.RecordFault.{RecordFault}
 use Rattle.qpu_record.specs.declared.fault.RecordFault.TheVariants as fault
 use Rattle.qpu_record.specs.declared.parts.RecordParts.{RecordParts}
+use Rattle.qpu_record.specs.declared.parts.Version.{Version}
 use Rattle.qpu_record.specs.declared.reading.Schedule.{Schedule as Told}
 use Rattle.qpu_text.specs.Bytes.{is_lf}
 use Rattle.qpu_record.specs.Items.{item_at}
@@ -18,6 +19,7 @@ pub record Schedule : Type 0 where
 
 -- what a record has
 pub record Parts : Type 0 where
+  pub version : Version
   pub job : List ℕ
   pub runs : List Run
   pub rest : List ℕ
@@ -44,13 +46,18 @@ schedule_of number runs line (byte ∷ text) =
     else and_then (item_at number line) (λ run. schedule_of (number + 1) (pushed runs run.actor run.count) [] text))
     else schedule_of number runs (line ++ byte ∷ []) text
 
-abbrev pub parts_with : List ℕ → Schedule → Parts
-parts_with job schedule =
-    record { job = job; runs = schedule.runs; rest = schedule.rest; rest_line = schedule.rest_line }
+abbrev pub parts_with : Heading → Schedule → Parts
+parts_with heading schedule = record {
+  version = heading.version;
+  job = heading.job;
+  runs = schedule.runs;
+  rest = schedule.rest;
+  rest_line = schedule.rest_line;
+}
 
 abbrev pub after_heading : Heading → Result Parts RecordFault
 after_heading heading =
-    and_then (schedule_of heading.number [] [] heading.rest) (λ schedule. Ok (parts_with heading.job schedule))
+    and_then (schedule_of heading.number [] [] heading.rest) (λ schedule. Ok (parts_with heading schedule))
 
 -- what a record has, or its first fault
 unfoldable pub record_of : List ℕ → Result Parts RecordFault
@@ -68,6 +75,7 @@ GivesRecord view (Err fault) due = Fails fault due
 
 abbrev pub parts_of : RecordParts → Parts
 parts_of parts = record {
+  version = parts.version;
   job = string_bytes parts.job;
   runs = parts.journal;
   rest = string_bytes parts.rest;

@@ -5,6 +5,8 @@ use Rattle.qpu_machine.specs.declared.actor.Actor.{Actor}
 use Rattle.qpu_machine.specs.declared.actor.Actor.TheVariants.{Exec, Load, Store, Fetch}
 use Rattle.qpu_machine.specs.declared.journal.Run.{Run}
 use Rattle.qpu_machine.specs.Journal.{is_same_actor}
+use Rattle.qpu_record.specs.declared.parts.Version.{Version}
+use Rattle.qpu_record.specs.declared.parts.Version.TheVariants.{First, Second}
 
 -- one step before the runs of the steps after it: it joins the first run where that is of its actor
 abbrev pub with_step : Actor → List Run → List Run
@@ -27,6 +29,11 @@ item_text run = elim run.actor [
   | Fetch q unit ↦ joined (codes "t " ∷ decimal q ∷ codes " " ∷ decimal unit ∷ codes " " ∷ decimal run.count ∷ codes "\n" ∷ [])
 ]
 
+-- the first line of a record
+abbrev pub opening_line : Version → List ℕ
+opening_line First = codes "qpurecord 1\n"
+opening_line Second = codes "qpurecord 2\n"
+
 -- whether a text ends with a line feed
 abbrev pub ends_line : List ℕ → Bool
 ends_line [] = false
@@ -41,7 +48,7 @@ missing_line_end job = if ends_line job then [] else codes "\n"
 unfoldable pub runs_text : List ℕ → List Run → List ℕ
 runs_text job runs =
     in_turn
-    (codes "qpurecord 1\n"
+    (opening_line Second
     ∷ joined (codes "job " ∷ decimal (length job) ∷ codes "\n" ∷ [])
     ∷ job
     ∷ missing_line_end job

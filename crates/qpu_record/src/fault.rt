@@ -9,7 +9,7 @@ use qpu_word::NoMemory;
 /// told.
 #[derive(Clone, Copy, Debug, PartialEq, Eq)]
 pub enum RecordFault {
-    /// The first line begins with `qpurecord ` and isn't `qpurecord 1`.
+    /// The first line begins with `qpurecord ` and is neither `qpurecord 1` nor `qpurecord 2`.
     Version,
     /// The line isn't the one that has to stand there, or lacks its line feed, or tells a job of more
     /// bytes than follow; or the text ends early, and this is the line after the last.

@@ -3,10 +3,11 @@
 ghost use Rattle.std.specs.Prelude.{◌≡◌, ◌+◌, ◌≤◌, ◌<◌, true, length, take, drop, IfOk, IfSome, option_map};
 ghost use Rattle.qpu_record.specs.declared.parts.TheConstants.{MOST_TEXT};
 ghost use Rattle.qpu_record.specs.Record.{ends_line};
-ghost use Rattle.qpu_record.specs.Heading.{opening, size_line, sized_told, job_part, after_job, schedule_line, heading_of, told, text_told, seen, begins_lf};
+ghost use Rattle.qpu_record.specs.Heading.{version_of, opening, opened_told, size_line, sized_told, job_part, part_told, schedule_line, heading_of, told, text_told, seen, begins_lf};
 
 use crate::fault::RecordFault;
 use crate::number::number_of;
+use crate::parts::Version;
 use crate::writing::ends_line;
 use qpu_text::{first_line, is_lf, line_feeds};
 
@@ -16,12 +17,25 @@ const JOB_LINE: u32 = 3;
 /// What stands before the items.
 #[derive(Clone, Copy, Debug)]
 pub(crate) struct Heading<'a> {
+    /// The record's version.
+    pub(crate) version: Version,
     /// The job.
     pub(crate) job: &'a str,
     /// What stands behind it.
     pub(crate) rest: &'a str,
     /// The number of the line with which that begins, from 1.
     pub(crate) number: u32,
+}
+
+/// A job, and what stands behind it.
+#[derive(Clone, Copy, Debug)]
+struct JobPart<'a> {
+    /// The job.
+    job: &'a str,
+    /// What stands behind it.
+    rest: &'a str,
+    /// The number of the line with which that begins, from 1.
+    number: u32,
 }
 
 /// All that stands before the items. Its rest begins with the first of these.
@@ -32,36 +46,48 @@ pub(crate) fn heading_of(text: &str) -> Result<Heading<'_>, RecordFault>
     ensures sizes { IfOk result (λ heading. length heading.job.now + length heading.rest.now ≤ length text.now) }
     ensures lines { IfOk result (λ heading. heading.number + length heading.rest.now ≤ length text.now) }
 {
-    let text = opening(text)?;
+    let (version, text) = opening(text)?;
     let Some((size, text)) = size_line(text) else {
         return Err(RecordFault::Line(JOB_LINE - 1));
     };
-    let heading = job_part(size, text)?;
-    let rest = schedule_line(heading.number, heading.rest)?;
+    let part = job_part(size, text)?;
+    let rest = schedule_line(part.number, part.rest)?;
     Ok(Heading {
-        job: heading.job,
+        version,
+        job: part.job,
         rest,
-        number: heading.number + 1,
+        number: part.number + 1,
     })
 }
 
-/// What stands behind line 1, `qpurecord 1`.
+/// The version that line 1, `qpurecord 1` or `qpurecord 2`, tells, and what stands behind this line.
 #[tactic(auto, unfolding(crate::specs::Heading::opening))]
-fn opening(text: &str) -> Result<&str, RecordFault>
-    ensures is { seen text_told result ≡ opening text.now }
-    ensures shorter { IfOk result (λ rest. length rest.now + 12 ≤ length text.now) }
+fn opening(text: &str) -> Result<(Version, &str), RecordFault>
+    ensures is { seen opened_told result ≡ opening text.now }
+    ensures shorter { IfOk result (λ opened. length opened.1.now + 12 ≤ length text.now) }
 {
     let line = first_line(text);
     if !line.front.starts_with(b"qpurecord ") {
         return Err(RecordFault::Line(1));
     }
-    if line.front != b"qpurecord 1".as_slice() {
-        return Err(RecordFault::Version);
-    }
+    let version = version_of(line.front)?;
     if !line.ended {
         return Err(RecordFault::Line(1));
     }
-    Ok(line.rest)
+    Ok((version, line.rest))
+}
+
+/// The version that line 1 without its line end tells.
+fn version_of(line: &[u8]) -> Result<Version, RecordFault>
+    ensures { result ≡ version_of line.now }
+{
+    if line == b"qpurecord 1".as_slice() {
+        return Ok(Version::First);
+    }
+    if line == b"qpurecord 2".as_slice() {
+        return Ok(Version::Second);
+    }
+    Err(RecordFault::Version)
 }
 
 /// The size that line 2, `job N`, tells, and what stands behind this line, at least so many bytes.
@@ -86,24 +112,24 @@ fn size_line(text: &str) -> Option<(usize, &str)>
 
 /// The job of a size, with the line feed that it lacks at its end.
 #[tactic(auto, unfolding(crate::specs::Heading::job_part))]
-fn job_part(size: usize, text: &str) -> Result<Heading<'_>, RecordFault>
+fn job_part(size: usize, text: &str) -> Result<JobPart<'_>, RecordFault>
     requires fits { size ≤ length text.now }
     requires most { length text.now ≤ MOST_TEXT }
-    ensures is { seen told result ≡ job_part size text.now }
-    ensures sizes { IfOk result (λ heading. length heading.job.now + length heading.rest.now ≤ length text.now) }
-    ensures lines { IfOk result (λ heading. heading.number + length heading.rest.now ≤ length text.now + 3) }
+    ensures is { seen part_told result ≡ job_part size text.now }
+    ensures sizes { IfOk result (λ part. length part.job.now + length part.rest.now ≤ length text.now) }
+    ensures lines { IfOk result (λ part. part.number + length part.rest.now ≤ length text.now + 3) }
 {
     let bytes = text.as_bytes();
     let number = JOB_LINE + line_feeds(&bytes[..size]) as u32;
     if ends_line(&bytes[..size]) {
         let (job, rest) = text.split_at(size);
-        return Ok(Heading { job, rest, number });
+        return Ok(JobPart { job, rest, number });
     }
     if !begins_line_feed(&bytes[size..]) {
         return Err(RecordFault::Line(number));
     }
     let (job, rest) = text.split_at(size);
-    Ok(Heading {
+    Ok(JobPart {
         job,
         rest: behind_line_feed(rest),
         number: number + 1,

@@ -14,7 +14,7 @@ mod writing;
 
 pub use fault::RecordFault;
 pub use laws::{keeps_steps, reads_the_grammar, records_are_read, spells_one_schedule};
-pub use parts::{MOST_TEXT, RecordParts};
+pub use parts::{MOST_TEXT, RecordParts, Version};
 pub use reading::read_record;
 pub use writing::write_record;
 

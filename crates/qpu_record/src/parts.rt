@@ -5,9 +5,20 @@ use qpu_machine::Journal;
 /// Bytes of the longest text with a record.
 pub const MOST_TEXT: usize = 268_435_456;
 
+/// How a record counts moves of transfers (this project's own).
+#[derive(Clone, Copy, Debug, PartialEq, Eq)]
+pub enum Version {
+    /// An item of loads or stores counts whole transfers.
+    First,
+    /// An item of loads or stores counts moves of one row. Records are written so.
+    Second,
+}
+
 /// What a text with a record at its front has.
 #[derive(Debug, Drop)]
 pub struct RecordParts {
+    /// How its items count moves of transfers.
+    pub version: Version,
     /// The job's text.
     pub job: String,
     /// The items of the schedule, neighbours of one actor put together.

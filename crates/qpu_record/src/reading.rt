@@ -38,6 +38,7 @@ pub fn read_record(alloc: Global, text: &str) -> Result<RecordParts, RecordFault
     let job = string_of(alloc, heading.job)?;
     let rest = string_of(alloc, schedule.rest)?;
     Ok(RecordParts {
+        version: heading.version,
         job,
         journal: schedule.journal,
         rest,

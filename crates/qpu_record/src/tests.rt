@@ -1,4 +1,4 @@
-use crate::{MOST_TEXT, RecordFault, RecordParts, read_record};
+use crate::{MOST_TEXT, RecordFault, RecordParts, Version, read_record};
 use qpu_machine::{Actor, Run};
 use std::alloc::Global;
 use std::test::Fail;
@@ -19,11 +19,12 @@ fn fails(alloc: Global, text: &str, fault: RecordFault) -> bool {
 }
 
 const WHOLE: &str =
-    "qpurecord 1\njob 9\nqpujob\n12\nschedule\nq 0 4\nq 0 1000000\nl 11 1\ns 3 2\nt 5 1 3\nt 5 0 1\nt 5 0 1\nq 0 1\nendrecord\nreport\nend";
+    "qpurecord 2\njob 9\nqpujob\n12\nschedule\nq 0 4\nq 0 1000000\nl 11 1\ns 3 2\nt 5 1 3\nt 5 0 1\nt 5 0 1\nq 0 1\nendrecord\nreport\nend";
 
 #[test]
 fn a_whole_record(rt: HostRuntime) -> Result<(), Fail> {
     let parts = read(rt.alloc(), WHOLE).ok().ok_or("the text has a record")?;
+    assert!(rt; parts.version == Version::Second);
     assert!(rt; parts.job.as_str() == "qpujob\n12");
     assert!(rt; parts.rest.as_str() == "report\nend");
     assert!(rt; parts.rest_line == 15);
@@ -46,25 +47,35 @@ fn a_whole_record(rt: HostRuntime) -> Result<(), Fail> {
     Ok(())
 }
 
-// The job, how many runs, the rest and its line.
-const ACCEPTED: [(&str, &str, usize, &str, u32); 8] = [
+// The version, the job, how many runs, the rest and its line.
+const ACCEPTED: [(&str, Version, &str, usize, &str, u32); 8] = [
     (
         "qpurecord 1\njob 1\na\nschedule\nendrecord\n",
+        Version::First,
         "a",
         0,
         "",
         6,
     ),
     (
-        "qpurecord 1\njob 2\na\nschedule\nendrecord",
+        "qpurecord 2\njob 2\na\nschedule\nendrecord",
+        Version::Second,
         "a\n",
         0,
         "",
         6,
     ),
-    ("qpurecord 1\njob 0\n\nschedule\nendrecord\n", "", 0, "", 6),
     (
-        "qpurecord 1\njob 1\n\nschedule\nendrecord\n\n",
+        "qpurecord 1\njob 0\n\nschedule\nendrecord\n",
+        Version::First,
+        "",
+        0,
+        "",
+        6,
+    ),
+    (
+        "qpurecord 2\njob 1\n\nschedule\nendrecord\n\n",
+        Version::Second,
         "\n",
         0,
         "\n",
@@ -72,13 +83,15 @@ const ACCEPTED: [(&str, &str, usize, &str, u32); 8] = [
     ),
     (
         "qpurecord 1\njob 18\nschedule\nendrecord\nschedule\nq 11 1\nendrecord\nq",
+        Version::First,
         "schedule\nendrecord",
         1,
         "q",
         8,
     ),
     (
-        "qpurecord 1\njob 2\n\r\nschedule\nt 0 0 1\nt 0 1 1\nt 0 1 9\nendrecord\nendrecord\n",
+        "qpurecord 2\njob 2\n\r\nschedule\nt 0 0 1\nt 0 1 1\nt 0 1 9\nendrecord\nendrecord\n",
+        Version::Second,
         "\r\n",
         2,
         "endrecord\n",
@@ -86,13 +99,15 @@ const ACCEPTED: [(&str, &str, usize, &str, u32); 8] = [
     ),
     (
         "qpurecord 1\njob 2\nä\nschedule\nq 1 1\nl 1 1\ns 1 1\nq 1 1\nendrecord\nä",
+        Version::First,
         "ä",
         4,
         "ä",
         10,
     ),
     (
-        "qpurecord 1\njob 3\n\n\n\nschedule\nq 0 1\nq 1 1\nendrecord\n",
+        "qpurecord 2\njob 3\n\n\n\nschedule\nq 0 1\nq 1 1\nendrecord\n",
+        Version::Second,
         "\n\n\n",
         2,
         "",
@@ -102,10 +117,11 @@ const ACCEPTED: [(&str, &str, usize, &str, u32); 8] = [
 
 #[test]
 fn records_are_accepted(rt: HostRuntime) -> Result<(), Fail> {
-    for (text, job, runs, rest, line) in &ACCEPTED {
+    for (text, version, job, runs, rest, line) in &ACCEPTED {
         let parts = read(rt.alloc(), *text)
             .ok()
             .ok_or("each text has a record")?;
+        assert!(rt; parts.version == *version, "{text}");
         assert!(rt; parts.job.as_str() == *job, "{text}");
         assert!(rt; parts.journal.runs().len() == *runs, "{text}");
         assert!(rt; parts.rest.as_str() == *rest, "{text}");
@@ -129,9 +145,24 @@ const HEADINGS: [(&str, RecordFault); 12] = [
     ("qpurecord 10\n", RecordFault::Version),
 ];
 
+const VERSIONS: [(&str, RecordFault); 12] = [
+    ("qpurecord 2", RecordFault::Line(1)),
+    ("qpurecord 2\n", RecordFault::Line(2)),
+    ("qpurecord 3", RecordFault::Version),
+    ("qpurecord 3\njob 0\n", RecordFault::Version),
+    ("qpurecord 9\njob 0\n", RecordFault::Version),
+    ("qpurecord 0\njob 0\n", RecordFault::Version),
+    ("qpurecord 02\njob 0\n", RecordFault::Version),
+    ("qpurecord 2 ", RecordFault::Version),
+    ("qpurecord 2 \njob 0\n", RecordFault::Version),
+    ("qpurecord 2\r\njob 0\n", RecordFault::Version),
+    ("qpurecord 12\n", RecordFault::Version),
+    ("qpurecord  2\n", RecordFault::Version),
+];
+
 #[test]
 fn versions_are_told(rt: HostRuntime) {
-    for (text, fault) in &HEADINGS {
+    for (text, fault) in HEADINGS.iter().chain(VERSIONS.iter()) {
         assert!(rt; fails(rt.alloc(), *text, *fault), "{text}");
     }
 }
@@ -162,24 +193,24 @@ fn sizes_are_told(rt: HostRuntime) {
 }
 
 const JOBS: [(&str, RecordFault); 12] = [
-    ("qpurecord 1\njob 0\n", RecordFault::Line(3)),
-    ("qpurecord 1\njob 0\nschedule\n", RecordFault::Line(3)),
-    ("qpurecord 1\njob 1\na", RecordFault::Line(3)),
-    ("qpurecord 1\njob 1\nab\nschedule\n", RecordFault::Line(3)),
-    ("qpurecord 1\njob 1\na\r\nschedule\n", RecordFault::Line(3)),
-    ("qpurecord 1\njob 4\na\nb\nc", RecordFault::Line(5)),
-    ("qpurecord 1\njob 3\na\nb\nc", RecordFault::Line(5)),
-    ("qpurecord 1\njob 3\na\nbc\n", RecordFault::Line(4)),
-    ("qpurecord 1\njob 2\na\n", RecordFault::Line(4)),
+    ("qpurecord 2\njob 0\n", RecordFault::Line(3)),
+    ("qpurecord 2\njob 0\nschedule\n", RecordFault::Line(3)),
+    ("qpurecord 2\njob 1\na", RecordFault::Line(3)),
+    ("qpurecord 2\njob 1\nab\nschedule\n", RecordFault::Line(3)),
+    ("qpurecord 2\njob 1\na\r\nschedule\n", RecordFault::Line(3)),
+    ("qpurecord 2\njob 4\na\nb\nc", RecordFault::Line(5)),
+    ("qpurecord 2\njob 3\na\nb\nc", RecordFault::Line(5)),
+    ("qpurecord 2\njob 3\na\nbc\n", RecordFault::Line(4)),
+    ("qpurecord 2\njob 2\na\n", RecordFault::Line(4)),
     (
-        "qpurecord 1\njob 2\na\n\nschedule\nendrecord\n",
+        "qpurecord 2\njob 2\na\n\nschedule\nendrecord\n",
         RecordFault::Line(4),
     ),
     (
-        "qpurecord 1\njob 1\nä\nschedule\nendrecord\n",
+        "qpurecord 2\njob 1\nä\nschedule\nendrecord\n",
         RecordFault::Line(3),
     ),
-    ("qpurecord 1\njob 1\na\n", RecordFault::Line(4)),
+    ("qpurecord 2\njob 1\na\n", RecordFault::Line(4)),
 ];
 
 #[test]
@@ -189,7 +220,7 @@ fn jobs_end_in_their_own_line(rt: HostRuntime) {
     }
 }
 
-const HEAD: &str = "qpurecord 1\njob 4\na\nb\nschedule\n";
+const HEAD: &str = "qpurecord 2\njob 4\na\nb\nschedule\n";
 
 // What follows the line `schedule`, which is the fifth.
 const ITEMS: [(&str, RecordFault); 12] = [
@@ -232,7 +263,7 @@ fn items_have_a_form_and_ranges(rt: HostRuntime) -> Result<(), Fail> {
     Ok(())
 }
 
-const CUT: &str = "qpurecord 1\njob 1\na\nschedule\nq 0 4\nendrecord\n";
+const CUT: &str = "qpurecord 2\njob 1\na\nschedule\nq 0 4\nendrecord\n";
 
 // The first line that fails where the text has so many bytes, or none.
 fn failing_line(bytes: usize) -> Option<u32> {

@@ -8,7 +8,7 @@ ghost use Rattle.qpu_record.specs.Record.{item_text, ends_line, missing_line_end
 use qpu_io::{Piece, Sink, SinkFailed, put_all, write_all_of};
 use qpu_machine::{Actor, Journal, Run};
 
-/// Writes the record of a job and of the steps that a journal spells. The one error is the sink's:
+/// Writes the record, of version 2, of a job and of the steps that a journal spells. The one error is the sink's:
 /// then a front of the text was written. It takes no memory.
 pub fn write_record<K: Sink>(job: &str, journal: &Journal, sink: &mut K) -> Result<(), SinkFailed>
     ensures { Prints (K.shown sink.old) (K.shown sink.new) (record_text job.now (steps_of journal.now)) result }
@@ -21,7 +21,7 @@ pub fn write_record<K: Sink>(job: &str, journal: &Journal, sink: &mut K) -> Resu
 fn write_runs<K: Sink>(job: &[u8], runs: &[Run], sink: &mut K) -> Result<(), SinkFailed>
     ensures { Prints (K.shown sink.old) (K.shown sink.new) (runs_text job.now runs.now) result }
 {
-    write_all_of(sink, b"qpurecord 1\n")?;
+    write_all_of(sink, b"qpurecord 2\n")?;
     put_size(job.len(), sink)?;
     write_all_of(sink, job)?;
     put_missing_line_end(job, sink)?;

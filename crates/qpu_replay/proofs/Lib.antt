@@ -1,2 +1,4 @@
 pub mod AnswerLemmas
+pub mod RowLemmas
 pub mod RunLemmas
+pub mod WidenLemmas

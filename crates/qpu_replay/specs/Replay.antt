@@ -1,4 +1,5 @@
--- What a replay of runs by a machine comes to. This project's own.
+-- What a replay of runs by a machine comes to, whichever way schedules lead from one machine to
+-- another. This project's own.
 use Rattle.std.specs.Prelude.{◌≡◌, ◌≤◌, ℕ, ◌+◌, ◌-◌, true, None, Result, Ok, Err, List, ◌∷◌, ◌++◌, length, replicate, take}
 use Rattle.qpu_machine.specs.declared.actor.Actor.{Actor}
 use Rattle.qpu_machine.specs.declared.conclusion.Ending.{Ending}
@@ -12,15 +13,15 @@ use Rattle.qpu_replay.specs.declared.fault.ReplayFault.TheVariants.{NotEnabled, 
 
 -- a step of one run, counted from 1, is the first that isn't enabled where it stands; the second
 -- machine is the one before it
-pub record StopsIn (step : ℕ) (run : Run) (m n : MachineState) : Type 0 where
+pub record StopsIn (Leads : MachineState → List Actor → MachineState → Type 0) (step : ℕ) (run : Run) (m n : MachineState) : Type 0 where
   pub least : 1 ≤ step
   pub most : step ≤ run.count
-  pub after : After m (replicate (step - 1) run.actor) n
+  pub after : Leads m (replicate (step - 1) run.actor) n
   pub stops : after_step n run.actor ≡ None
 
 -- a step of runs is the first that isn't enabled where it stands: of the run with a number, counted
 -- from 1, the step with a number, counted from 1; the second machine is the one before it
-pub record StopsAt (item step : ℕ) (m : MachineState) (runs : List Run) (n : MachineState) : Type 0 where
+pub record StopsAt (Leads : MachineState → List Actor → MachineState → Type 0) (item step : ℕ) (m : MachineState) (runs : List Run) (n : MachineState) : Type 0 where
   pub front : List Run
   pub run : Run
   pub back : List Run
@@ -28,29 +29,29 @@ pub record StopsAt (item step : ℕ) (m : MachineState) (runs : List Run) (n : M
   pub number : length front + 1 ≡ item
   pub least : 1 ≤ step
   pub most : step ≤ run.count
-  pub after : After m (steps_of front ++ replicate (step - 1) run.actor) n
+  pub after : Leads m (steps_of front ++ replicate (step - 1) run.actor) n
   pub stops : after_step n run.actor ≡ None
 
 -- all steps of the runs are enabled where they stand, and then no actor has a step
-pub record IsComplete (m : MachineState) (runs : List Run) (n : MachineState) : Type 0 where
-  pub after : After m (steps_of runs) n
+pub record IsComplete (Leads : MachineState → List Actor → MachineState → Type 0) (m : MachineState) (runs : List Run) (n : MachineState) : Type 0 where
+  pub after : Leads m (steps_of runs) n
   pub final : IsFinal n
 
 -- all steps of the runs are enabled where they stand, and then some actor has a step
-pub record IsUnfinished (m : MachineState) (runs : List Run) (n : MachineState) : Type 0 where
-  pub after : After m (steps_of runs) n
+pub record IsUnfinished (Leads : MachineState → List Actor → MachineState → Type 0) (m : MachineState) (runs : List Run) (n : MachineState) : Type 0 where
+  pub after : Leads m (steps_of runs) n
   pub actor : Actor
   pub moves : is_enabled n actor ≡ true
 
 -- what a fault says
-abbrev pub IsFault : ReplayFault → MachineState → List Run → MachineState → Type 0
-IsFault (NotEnabled item step) m runs n = StopsAt item step m runs n
-IsFault NotFinished m runs n = IsUnfinished m runs n
+abbrev pub IsFault : (MachineState → List Actor → MachineState → Type 0) → ReplayFault → MachineState → List Run → MachineState → Type 0
+IsFault Leads (NotEnabled item step) m runs n = StopsAt Leads item step m runs n
+IsFault Leads NotFinished m runs n = IsUnfinished Leads m runs n
 
 -- what an answer says, of the machine before and the one that is left
 abbrev pub Replays : Result Ending ReplayFault → MachineState → List Run → MachineState → Type 0
-Replays (Ok ending) m runs n = IsComplete m runs n × (ending ≡ ending_of n)
-Replays (Err fault) m runs n = IsFault fault m runs n
+Replays (Ok ending) m runs n = IsComplete After m runs n × (ending ≡ ending_of n)
+Replays (Err fault) m runs n = IsFault After fault m runs n
 
 -- the steps that a replay took: all, or those before the one that isn't enabled
 abbrev pub steps_taken : Result Ending ReplayFault → List Run → List Actor

@@ -15,9 +15,9 @@ use qpu_machine::{Ending, Journal, Machine, Run};
 
 /// Takes the steps of a run, in order, up to the first that isn't enabled, and gives that one's
 /// number, counted from 1; none where all were taken.
-fn take_run(machine: &mut Machine, run: &Run) -> Option<u64>
+pub(crate) fn take_run(machine: &mut Machine, run: &Run) -> Option<u64>
     ensures all { IsNone result → After machine.old.state (replicate run.now.count run.now.actor) machine.new.state }
-    ensures stops { IfSome result (λ step. StopsIn step run.now machine.old.state machine.new.state) }
+    ensures stops { IfSome result (λ step. StopsIn After step run.now machine.old.state machine.new.state) }
     ensures starts { machine.new.starts ≡ machine.old.starts }
 {
     for taken in 0..run.count {
@@ -31,7 +31,7 @@ fn take_run(machine: &mut Machine, run: &Run) -> Option<u64>
 /// Takes the steps of runs, in order, up to the first that isn't enabled.
 fn take_all(machine: &mut Machine, runs: &[Run]) -> Result<(), ReplayFault>
     ensures ok { OnOk result (After machine.old.state (steps_of runs.now) machine.new.state) }
-    ensures err { IfErr result (λ fault. IsFault fault machine.old.state runs.now machine.new.state) }
+    ensures err { IfErr result (λ fault. IsFault After fault machine.old.state runs.now machine.new.state) }
     ensures starts { machine.new.starts ≡ machine.old.starts }
 {
     for i in 0..runs.len() {
@@ -53,7 +53,7 @@ fn take_all(machine: &mut Machine, runs: &[Run]) -> Result<(), ReplayFault>
 ///
 /// Whatever the answer, the steps that were taken are no more than the machine had left, and the words
 /// that they execute go on the paths of their programs and break no rule. Where the machine was one
-/// before any step, they have at most the limit of instructions for each processor and three steps for
+/// before any step, they have at most the limit of instructions for each processor and 81 steps for
 /// each of these in all, and each trace is a path of its program that breaks no rule. Where the answer
 /// is Ok no move is pending, each running processor awaits the mutex or a semaphore, and a processor
 /// ran out exactly where it neither ended nor faulted and has executed the limit.

@@ -2,10 +2,10 @@
 ghost use Rattle.std.specs.Prelude.{◌≡◌, ◌+◌, ◌^◌, ◌<◌, ◌≤◌, OnOk};
 ghost use Rattle.qpu_machine.specs.Journal.{pushed, last_count};
 
-use crate::{ReplayFault, replay};
+use crate::{ReplayFault, WidenFault, replay, widen};
 use arrayvec::ArrayVec;
 use qpu_hazard::{Checked, Programs, check};
-use qpu_machine::{Actor, Ending, Journal, Machine, Start};
+use qpu_machine::{Actor, Ending, Journal, Machine, Run, Start};
 use qpu_mem::Memory;
 use qpu_word::Word;
 use std::alloc::Global;
@@ -19,7 +19,8 @@ const END: Word = Word(0x300009e7009e7000);
 /// `ldi r0, 0x12345678`; program end.
 const FOUR: [Word; 4] = [Word(0xe002082712345678), END, NOP, NOP];
 
-/// `ldi vw_setup, 0xa0104000`, 64 rows; `ldi vw_addr, 0`; program end.
+/// `ldi vw_setup, 0xa0104000`, 64 rows; `ldi vw_addr, 0`; program end. The first two words start the
+/// store.
 const STORE: [Word; 5] = [
     Word(0xe0021c67a0104000),
     Word(0xe0021ca700000000),
@@ -157,33 +158,146 @@ fn a_journal_of_no_steps_moves_nothing(rt: HostRuntime) -> Result<(), Fail> {
     Ok(())
 }
 
-/// The store moves once, before or after the program ends.
-#[test]
+/// A journal of two words, so many moves of the store that these start, and three words.
 #[tactic(auto, unfolding(qpu_machine::specs::Journal::pushed, qpu_machine::specs::Journal::last_count))]
+fn around_store(alloc: Global, moves: u64) -> Result<Journal, Fail>
+    requires { 1 ≤ moves }
+{
+    let mut journal = Journal::new(alloc);
+    push(&mut journal, Actor::Exec(0), 2)?;
+    push(&mut journal, Actor::Store(0), moves)?;
+    push(&mut journal, Actor::Exec(0), 3)?;
+    Ok(journal)
+}
+
+/// A journal of one move of that store, and three words.
+#[tactic(auto, unfolding(qpu_machine::specs::Journal::pushed, qpu_machine::specs::Journal::last_count))]
+fn from_store(alloc: Global) -> Result<Journal, Fail> {
+    let mut journal = Journal::new(alloc);
+    push(&mut journal, Actor::Store(0), 1)?;
+    push(&mut journal, Actor::Exec(0), 3)?;
+    Ok(journal)
+}
+
+/// A journal of so many words.
+#[tactic(auto, unfolding(qpu_machine::specs::Journal::last_count))]
+fn of_words(alloc: Global, count: u64) -> Result<Journal, Fail>
+    requires { 1 ≤ count }
+{
+    let mut journal = Journal::new(alloc);
+    push(&mut journal, Actor::Exec(0), count)?;
+    Ok(journal)
+}
+
+/// The store has 64 rows, each of which is a step.
+#[test]
 fn later_runs_are_counted(rt: HostRuntime) -> Result<(), Fail> {
     let alloc = rt.alloc();
-    let mut first = Journal::new(alloc);
-    push(&mut first, Actor::Exec(0), 2)?;
-    push(&mut first, Actor::Store(0), 1)?;
-    push(&mut first, Actor::Exec(0), 3)?;
     let mut machine = machine_of(alloc, &STORE)?;
-    assert!(rt; replay(&mut machine, &first) == Ok(Ending::Done));
-    let mut twice = Journal::new(alloc);
-    push(&mut twice, Actor::Exec(0), 1)?;
-    push(&mut twice, Actor::Exec(0), 1)?;
-    push(&mut twice, Actor::Store(0), 2)?;
+    let answer = replay(&mut machine, &around_store(alloc, 64)?);
+    assert!(rt; answer == Ok(Ending::Done), "{answer:?}");
     let mut machine = machine_of(alloc, &STORE)?;
-    let answer = replay(&mut machine, &twice);
+    let answer = replay(&mut machine, &around_store(alloc, 1)?);
+    assert!(rt; answer == Err(ReplayFault::NotFinished), "{answer:?}");
+    let mut machine = machine_of(alloc, &STORE)?;
+    let answer = replay(&mut machine, &around_store(alloc, 65)?);
     assert!(rt;
-        answer == Err(ReplayFault::NotEnabled { item: 2, step: 2 }),
+        answer == Err(ReplayFault::NotEnabled { item: 2, step: 65 }),
         "{answer:?}"
     );
     assert!(rt; executed(&machine) == Some(2));
-    let mut never = Journal::new(alloc);
-    push(&mut never, Actor::Exec(0), 5)?;
+    let never = of_words(alloc, 5)?;
     let mut machine = machine_of(alloc, &STORE)?;
     let answer = replay(&mut machine, &never);
     assert!(rt; answer == Err(ReplayFault::NotFinished), "{answer:?}");
     assert!(rt; replay(&mut machine, &never) == Err(ReplayFault::NotEnabled { item: 1, step: 1 }));
+    Ok(())
+}
+
+/// Whether a journal has these runs.
+fn has_runs(journal: &Journal, runs: &[(Actor, u64)]) -> bool {
+    if journal.runs().len() != runs.len() {
+        return false;
+    }
+    for (run, (actor, count)) in journal.runs().iter().zip(runs.iter()) {
+        let expected = Run {
+            actor: *actor,
+            count: *count,
+        };
+        if *run != expected {
+            return false;
+        }
+    }
+    true
+}
+
+/// One step of the store stands for its 64 rows, and for 61 where three are moved.
+#[test]
+fn a_store_is_widened_to_its_rows(rt: HostRuntime) -> Result<(), Fail> {
+    let alloc = rt.alloc();
+    let mut machine = machine_of(alloc, &STORE)?;
+    let wide = widen(alloc, &machine, &around_store(alloc, 1)?);
+    let wide = wide.ok().ok_or("the journal is widened")?;
+    let runs = [
+        (Actor::Exec(0), 2),
+        (Actor::Store(0), 64),
+        (Actor::Exec(0), 3),
+    ];
+    assert!(rt; has_runs(&wide, &runs));
+    assert!(rt; executed(&machine) == Some(0));
+    for _ in 0..2 {
+        assert!(rt; machine.step(Actor::Exec(0)));
+    }
+    for _ in 0..3 {
+        assert!(rt; machine.step(Actor::Store(0)));
+    }
+    let answer = widen(alloc, &machine, &of_words(alloc, 3)?).err();
+    assert!(rt;
+        answer == Some(WidenFault::Replay(ReplayFault::NotFinished)),
+        "{answer:?}"
+    );
+    let wide = widen(alloc, &machine, &from_store(alloc)?);
+    let wide = wide.ok().ok_or("the rest is widened")?;
+    assert!(rt; has_runs(&wide, &[(Actor::Store(0), 61), (Actor::Exec(0), 3)]));
+    assert!(rt; replay(&mut machine, &wide) == Ok(Ending::Done));
+    Ok(())
+}
+
+/// Faults are told by the runs and steps of the journal that is widened.
+#[test]
+fn a_store_is_widened_once(rt: HostRuntime) -> Result<(), Fail> {
+    let alloc = rt.alloc();
+    let machine = machine_of(alloc, &STORE)?;
+    let answer = widen(alloc, &machine, &around_store(alloc, 2)?).err();
+    let twice = ReplayFault::NotEnabled { item: 2, step: 2 };
+    assert!(rt; answer == Some(WidenFault::Replay(twice)), "{answer:?}");
+    let answer = widen(alloc, &machine, &Journal::new(alloc)).err();
+    assert!(rt;
+        answer == Some(WidenFault::Replay(ReplayFault::NotFinished)),
+        "{answer:?}"
+    );
+    Ok(())
+}
+
+/// What has no transfer is widened to itself, and fails as it does in a replay.
+#[test]
+#[tactic(auto, unfolding(qpu_machine::specs::Journal::last_count))]
+fn journals_without_transfers_stay(rt: HostRuntime) -> Result<(), Fail> {
+    let alloc = rt.alloc();
+    for case in &CASES {
+        let name = case.name;
+        assert!(rt; case.count >= 1, "{name}");
+        let mut journal = Journal::new(alloc);
+        push(&mut journal, case.actor, case.count)?;
+        let machine = machine_of(alloc, &FOUR)?;
+        match (widen(alloc, &machine, &journal), case.answer) {
+            (Ok(wide), Ok(_)) => assert!(rt;
+                has_runs(&wide, &[(case.actor, case.count)]),
+                "{name}"
+            ),
+            (Err(told), Err(fault)) => assert!(rt; told == WidenFault::Replay(fault), "{name}"),
+            _ => assert!(rt; false, "{name}"),
+        }
+    }
     Ok(())
 }

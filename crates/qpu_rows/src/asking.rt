@@ -95,7 +95,7 @@ pub fn answered_unread(alloc: Global, words: &[&str]) -> Result<Option<Answer>, 
 
 /// The whole output of a row: its job's record up to the schedule, and the rest.
 pub fn whole(alloc: Global, row: &Row) -> Result<Vec<u8>, AllocError> {
-    let mut text = Vec::from_slice(alloc, b"qpurecord 1\njob ")?;
+    let mut text = Vec::from_slice(alloc, b"qpurecord 2\njob ")?;
     text.extend_from_slice(row.size.as_bytes())?;
     text.extend_from_slice(b"\n")?;
     text.extend_from_slice(row.job.as_bytes())?;

@@ -5,7 +5,7 @@ use qpu_tool::Status;
 use std::test::Fail;
 
 /// What every output of a job that was accepted begins with.
-const HEAD: &[u8] = b"qpurecord 1\njob ";
+const HEAD: &[u8] = b"qpurecord 2\njob ";
 
 /// What the cut jobs without a line of data give after their text.
 const EMPTY: &[u8] = b"schedule\nendrecord\nreport\nending done\nendreport\n";

@@ -171,6 +171,7 @@ pub const STORE_OF_64: Row = Row {
         q 0 2\n\
         s 0 1\n\
         q 0 3\n\
+        s 0 63\n\
         endrecord\n\
         report\n\
         qpu 0 ended executed 5 interrupts 0\n\

@@ -28,6 +28,8 @@ mod hexadecimal;
 #[cfg(test)]
 mod jobs;
 #[cfg(test)]
+mod jobs_bytes;
+#[cfg(test)]
 mod jobs_memory;
 #[cfg(test)]
 mod jobs_twelve;

@@ -1,17 +1,18 @@
 //! The command `replay`: records, and the report or the refusal that is written.
 use crate::asking::{REPLAY, answered};
 use crate::jobs::{ASSEMBLED_OUTPUT, FIRST_OUTPUT};
+use crate::jobs_vpm::STORE_OF_64;
 use qpu_tool::Status;
 use std::alloc::{AllocError, Global};
 use std::test::Fail;
 
 /// A record of one processor and four words, up to its schedule.
 const HEAD: &[u8] =
-    b"qpurecord 1\njob 101\nqpujob 1\nmemory 16\nlimit 100\nprogram a\nldi r0, 0x12345678\nnop; thrend\nnop\nnop\nendprogram\nstart 0 a 0\nschedule\n";
+    b"qpurecord 2\njob 101\nqpujob 1\nmemory 16\nlimit 100\nprogram a\nldi r0, 0x12345678\nnop; thrend\nnop\nnop\nendprogram\nstart 0 a 0\nschedule\n";
 
 /// The record of two processors that end, up to its schedule.
 const TWO: &[u8] =
-    b"qpurecord 1\njob 94\nqpujob 1\nmemory 16\nlimit 100\nprogram a\nnop; thrend\nnop\nnop\nendprogram\nstart 0 a 0\nstart 1 a 0\nschedule\n";
+    b"qpurecord 2\njob 94\nqpujob 1\nmemory 16\nlimit 100\nprogram a\nnop; thrend\nnop\nnop\nendprogram\nstart 0 a 0\nstart 1 a 0\nschedule\n";
 
 /// What is written of its machine.
 const BOTH_ENDED: &[u8] =
@@ -54,6 +55,87 @@ fn items_may_stand_in_any_permitted_order(rt: HostRuntime) -> Result<(), Fail> {
         assert!(rt; answer.status == Status::Done);
         assert!(rt; answer.text.as_slice() == BOTH_ENDED);
     }
+    Ok(())
+}
+
+/// The record of a store of 64 rows, with its first line and its items.
+fn store_record(alloc: Global, version: &[u8], items: &[u8]) -> Result<Vec<u8>, AllocError> {
+    let mut text = behind(alloc, version, b"job ")?;
+    text.extend_from_slice(STORE_OF_64.size.as_bytes())?;
+    text.extend_from_slice(b"\n")?;
+    text.extend_from_slice(STORE_OF_64.job.as_bytes())?;
+    text.extend_from_slice(b"schedule\n")?;
+    text.extend_from_slice(items)?;
+    text.extend_from_slice(b"endrecord\n")?;
+    Ok(text)
+}
+
+/// The report of that store's machine, which has nothing but zeros.
+const STORED: &[u8] = b"report\nqpu 0 ended executed 5 interrupts 0\nending done\nendreport\n";
+
+#[test]
+fn a_record_of_version_1_counts_whole_transfers(rt: HostRuntime) -> Result<(), Fail> {
+    let alloc = rt.alloc();
+    let rows: [(&[u8], Status, &[u8]); 6] = [
+        (b"q 0 2\ns 0 1\nq 0 3\n", Status::Done, STORED),
+        (b"q 0 5\ns 0 1\n", Status::Done, STORED),
+        (
+            b"q 0 5\n",
+            Status::RecordRefused,
+            b"refused record not finished\n",
+        ),
+        (
+            b"q 0 2\ns 0 64\nq 0 3\n",
+            Status::RecordRefused,
+            b"refused record item 2 step 2\n",
+        ),
+        (
+            b"q 0 2\ns 0 1\nq 0 4\n",
+            Status::RecordRefused,
+            b"refused record item 3 step 4\n",
+        ),
+        (
+            b"q 0 1\ns 0 1\n",
+            Status::RecordRefused,
+            b"refused record item 2 step 1\n",
+        ),
+    ];
+    for (items, status, told) in rows {
+        let record = store_record(alloc, b"qpurecord 1\n", items)?;
+        let answer = answered(alloc, &REPLAY, &record, &[], &[])?;
+        assert!(rt; answer.status == status);
+        assert!(rt; answer.text.as_slice() == told);
+    }
+    Ok(())
+}
+
+#[test]
+fn a_record_of_version_2_counts_rows(rt: HostRuntime) -> Result<(), Fail> {
+    let alloc = rt.alloc();
+    let rows: [(&[u8], Status, &[u8]); 4] = [
+        (b"q 0 2\ns 0 64\nq 0 3\n", Status::Done, STORED),
+        (b"q 0 2\ns 0 1\nq 0 3\ns 0 63\n", Status::Done, STORED),
+        (
+            b"q 0 2\ns 0 1\nq 0 3\n",
+            Status::RecordRefused,
+            b"refused record not finished\n",
+        ),
+        (
+            b"q 0 2\ns 0 65\nq 0 3\n",
+            Status::RecordRefused,
+            b"refused record item 2 step 65\n",
+        ),
+    ];
+    for (items, status, told) in rows {
+        let record = store_record(alloc, b"qpurecord 2\n", items)?;
+        let answer = answered(alloc, &REPLAY, &record, &[], &[])?;
+        assert!(rt; answer.status == status);
+        assert!(rt; answer.text.as_slice() == told);
+    }
+    let third = store_record(alloc, b"qpurecord 3\n", b"q 0 2\ns 0 64\nq 0 3\n")?;
+    let answer = answered(alloc, &REPLAY, &third, &[], &[])?;
+    assert!(rt; answer.status == Status::RecordRefused);
+    assert!(rt; answer.text.as_slice() == b"refused record version\n".as_slice());
     Ok(())
 }
 
@@ -125,7 +207,7 @@ fn other_items_before_the_report_are_told(rt: HostRuntime) -> Result<(), Fail> {
 #[test]
 fn another_version_before_a_whole_record_is_told(rt: HostRuntime) -> Result<(), Fail> {
     let alloc = rt.alloc();
-    let whole = ASSEMBLED_OUTPUT.strip_prefix(b"qpurecord 1\n");
+    let whole = ASSEMBLED_OUTPUT.strip_prefix(b"qpurecord 2\n");
     let rest = whole.ok_or("the output begins with its version")?;
     let text = behind(alloc, b"qpurecord 9\n", rest)?;
     let answer = answered(alloc, &REPLAY, &text, &[], &[])?;
@@ -167,10 +249,12 @@ fn another_report_is_told_by_its_first_line(rt: HostRuntime) -> Result<(), Fail>
 #[test]
 fn a_text_that_is_no_record_is_told_by_its_line(rt: HostRuntime) -> Result<(), Fail> {
     let alloc = rt.alloc();
-    let rows: [(&[u8], &[u8]); 9] = [
+    let rows: [(&[u8], &[u8]); 11] = [
         (b"", b"refused record line 1\n"),
-        (b"qpurecord 2\n", b"refused record version\n"),
+        (b"qpurecord 3", b"refused record version\n"),
         (b"qpurecord 1", b"refused record line 1\n"),
+        (b"qpurecord 2", b"refused record line 1\n"),
+        (b"qpurecord 2\n", b"refused record line 2\n"),
         (b"qpurecord 1\n", b"refused record line 2\n"),
         (b"qpurecord 1\njob 09\n", b"refused record line 2\n"),
         (b"qpurecord 1\njob 5\nabc\n", b"refused record line 2\n"),

@@ -2,6 +2,7 @@
 //! hand; only the text of the twelve processors was written by an interpreter of its own, and then
 //! held against what each look-up, sum and store of that job must give.
 use crate::asking::{REPLAY, RUN, Row, answered, whole};
+use crate::jobs_bytes::{BYTES_IN_A_ROW, NO_SUCH_SIZE, SIXTY_FIVE_PLACES, STORED_BYTES};
 use crate::jobs_memory::{LOOK_UP, LOOSE, NOTHING, UNIFORM_WORDS, UNIFORMS};
 use crate::jobs_twelve::TWELVE;
 use crate::jobs_units::{CARRIES, NEIGHBOUR, PACKS, PASSED_BY, ROTATIONS};
@@ -70,6 +71,16 @@ fn memory_is_read_by_uniforms_and_look_ups(rt: HostRuntime) -> Result<(), Fail> 
     assert!(rt; holds(alloc, &UNIFORMS)?);
     assert!(rt; holds(alloc, &UNIFORM_WORDS)?);
     assert!(rt; holds(alloc, &LOOK_UP)?);
+    Ok(())
+}
+
+#[test]
+fn elements_of_8_bits_lie_side_by_side_or_in_lanes(rt: HostRuntime) -> Result<(), Fail> {
+    let alloc = rt.alloc();
+    assert!(rt; holds(alloc, &BYTES_IN_A_ROW)?);
+    assert!(rt; holds(alloc, &STORED_BYTES)?);
+    assert!(rt; holds(alloc, &NO_SUCH_SIZE)?);
+    assert!(rt; holds(alloc, &SIXTY_FIVE_PLACES)?);
     Ok(())
 }
 

@@ -1,69 +1,99 @@
--- Moves, pair by pair.
-use Rattle.std.proofs.Common.{◌≡◌, ℕ, ◌+◌, ◌<◌, ◌≤◌, List, length, get_or, set, take, refl, ap, sym, ◌∙◌, arith, Some, None, fold, length-set, nat_lt, true, if◌then◌else◌}
-use Rattle.std.specs.List.{slice_get}
+-- The move of a row, element by element.
+use Rattle.std.proofs.Common.{◌≡◌, ℕ, ◌+◌, ◌/◌, ◌<◌, ◌≤◌, List, [], ◌∷◌, ◌++◌, length, get_or, take, refl, ap, sym, ◌∙◌, arith, Some, None, fold, length-set, map}
+use Rattle.std.specs.Prelude.{Bool, true, false, Option, IfSome, IsTrue, nat_lt, if◌then◌else◌}
+use Rattle.std.specs.List.{slice_get, range_with_len}
 use Rattle.std.proofs.lemmas.List.{take_all}
-use Rattle.std.proofs.lemmas.Bool.Decides.{nat_tests}
 use Rattle.std.proofs.lemmas.List.Sums.{fold_more}
-use Rattle.std.proofs.lemmas.Option.{get_or_from_slice_get, slice_get_within, slice_get-get_or}
+use Rattle.std.proofs.lemmas.Bool.Decides.{nat_tests}
+use Rattle.std.proofs.lemmas.Option.{slice_get-get_or}
+use Rattle.qpu_bytes.specs.Elements.{element, part, with_part}
+use Rattle.std.proofs.lemmas.List.FromFn.{get_or-map-range_with_len}
+use Rattle.qpu_dma.specs.declared.direction.Direction.{Direction}
+use Rattle.qpu_dma.specs.declared.direction.Direction.TheVariants.{Load as LoadOf, Store as StoreOf}
 use Rattle.qpu_dma.specs.declared.Pair.{Pair}
-use Rattle.qpu_dma.specs.Transfers.{TransferPlan, transfer_pairs}
-use Rattle.qpu_dma.specs.Once.{pair_count}
-use Rattle.qpu_dma.proofs.PlanLemmas.{length-transfer_pairs}
-use Rattle.qpu_vpm.specs.Cells.{cell}
-use Rattle.qpu_shared.specs.Moves.{vpm_loaded, memory_stored}
+use Rattle.qpu_dma.specs.Transfers.{TransferState, pair_at, row_pairs, fits}
+use Rattle.qpu_dma.specs.Moves.{carried, carried_one, after_row}
+use Rattle.qpu_dma.proofs.FitLemmas.{length-row_pairs}
+use Rattle.qpu_shared.specs.SharedState.{SharedState}
+use Rattle.qpu_shared.specs.Moves.{with_carried}
 
--- the VPM after the first k pairs of a load
-pub record IsLoaded (plan : TransferPlan) (memory old now : List ℕ) (k : ℕ) : Type 0 where
-  pub is : now ≡ vpm_loaded (take k (transfer_pairs plan)) memory old
-
--- one pair more
-pub loaded_more : {plan : TransferPlan} {memory old now next : List ℕ} {k : ℕ} (pair : Pair) → slice_get (transfer_pairs plan) k ≡ Some pair
-    → next ≡ set now (cell pair.row pair.column) (get_or memory pair.word 0) → IsLoaded plan memory old now k → IsLoaded plan memory old next (k + 1)
-unfolding vpm_loaded
-loaded_more {plan} {memory} {old} {now} {next} {k} pair here made before =
-    let f : List ℕ → Pair → List ℕ = λ (vpm : List ℕ) (p : Pair). set vpm (cell p.row p.column) (get_or memory p.word 0) in
-    let step = fold_more f old (transfer_pairs plan) k pair (slice_get_within (transfer_pairs plan) k pair here) in
-    record { is = made ∙ (ap (λ (vpm : List ℕ). f vpm pair) before.is ∙ sym (step ∙ ap (f (fold f old (take k (transfer_pairs plan)))) (get_or_from_slice_get (transfer_pairs plan) k pair pair here))) }
+-- the shared parts after the first j elements of a row
+pub record IsCarried (direction : Direction) (t : TransferState) (old now : SharedState) (j : ℕ) : Type 0 where
+  pub is : now ≡ with_carried direction old (take j (row_pairs t t.moved))
+  pub long : length now.memory ≡ length old.memory
 
 -- before the first
-pub loaded_none : (plan : TransferPlan) (memory old : List ℕ) → IsLoaded plan memory old old 0
-unfolding vpm_loaded
-loaded_none plan memory old = record { is = refl }
+pub carried_none : (direction : Direction) (t : TransferState) (old : SharedState) → IsCarried direction t old old 0
+unfolding carried
+carried_none LoadOf t old = record { is = refl; long = refl }
+carried_none StoreOf t old = record { is = refl; long = refl }
+
+-- one more of a list
+with_more : (direction : Direction) (old : SharedState) (pairs : List Pair) (j : ℕ) (pair : Pair) → j < length pairs → get_or pairs j pair ≡ pair
+    → with_carried direction (with_carried direction old (take j pairs)) (pair ∷ []) ≡ with_carried direction old (take (j + 1) pairs)
+unfolding carried
+with_more LoadOf old pairs j pair low is =
+    let step = fold_more (carried_one LoadOf old.memory) old.vpm pairs j pair low in
+    ap (λ (vpm : List ℕ). record old { vpm = vpm }) (sym (step ∙ ap (carried_one LoadOf old.memory (fold (carried_one LoadOf old.memory) old.vpm (take j pairs))) is))
+with_more StoreOf old pairs j pair low is =
+    let step = fold_more (carried_one StoreOf old.vpm) old.memory pairs j pair low in
+    ap (λ (memory : List ℕ). record old { memory = memory }) (sym (step ∙ ap (carried_one StoreOf old.vpm (fold (carried_one StoreOf old.vpm) old.memory (take j pairs))) is))
+
+-- one element more
+pub carried_more : {direction : Direction} {t : TransferState} {old now next : SharedState} {j : ℕ} (pair : Pair) → j < t.row_length → pair ≡ pair_at t t.moved j
+    → next ≡ with_carried direction now (pair ∷ []) → length next.memory ≡ length now.memory → IsCarried direction t old now j → IsCarried direction t old next (j + 1)
+unfolding row_pairs
+carried_more {direction} {t} {old} {now} {next} {j} pair low is made long before =
+    let there : j < length (row_pairs t t.moved) = omega (arith, low, length-row_pairs t t.moved) in
+    let at : get_or (row_pairs t t.moved) j pair ≡ pair = get_or-map-range_with_len (pair_at t t.moved) 0 t.row_length j j pair low (omega arith) ∙ sym is in
+    record {
+      is = made ∙ (ap (λ (s : SharedState). with_carried direction s (pair ∷ [])) before.is ∙ with_more direction old (row_pairs t t.moved) j pair there at);
+      long = long ∙ before.long;
+    }
+
+-- after the last
+pub carried_all : {direction : Direction} {t : TransferState} {old now : SharedState} {j : ℕ} → t.row_length ≤ j → IsCarried direction t old now j
+    → now ≡ with_carried direction old (row_pairs t t.moved)
+unfolding row_pairs
+carried_all {direction} {t} {old} {now} {j} high done =
+    done.is ∙ ap (with_carried direction old) (take_all j (row_pairs t t.moved) (omega (arith, high, length-row_pairs t t.moved)))
+
+-- carrying leaves what is pending, and the length of memory
+pub carried_long : (direction : Direction) (from into : List ℕ) (pairs : List Pair) → length (fold (carried_one direction from) into pairs) ≡ length into
+carried_long direction from into [] = refl
+carried_long direction from into (pair ∷ pairs) =
+    carried_long direction from (carried_one direction from into pair) pairs ∙ length-set into _ _
 
 -- a word inside memory is there
 pub no_word : (memory : List ℕ) (at : ℕ) → at < length memory → slice_get memory at ≡ None → ⊥
 no_word memory at low none = let there = slice_get-get_or memory at 0 low in cc
 
--- after the last
-pub loaded_all : {plan : TransferPlan} {memory old now : List ℕ} {k : ℕ} → pair_count plan ≤ k → IsLoaded plan memory old now k → now ≡ vpm_loaded (transfer_pairs plan) memory old
-unfolding vpm_loaded
-loaded_all {plan} {memory} {old} {now} {k} high done = done.is ∙ rw (take_all k (transfer_pairs plan) (omega (arith, length-transfer_pairs plan))) refl
+-- what is left of a transfer that fits does
+left_fits : (words : ℕ) (more : Bool) (t : TransferState) → IsTrue (fits t words)
+    → IfSome (if more then Some (record t { moved = t.moved + 1 }) else None) (λ x. IsTrue (fits x words))
+unfolding fits
+left_fits words true t may = may
+left_fits words false t may = tt
 
--- memory after the first k pairs of a store, as long as before
-pub record IsStored (plan : TransferPlan) (vpm old now : List ℕ) (k : ℕ) : Type 0 where
-  pub is : now ≡ memory_stored (take k (transfer_pairs plan)) vpm old
-  pub long : length now ≡ length old
+pub rest_fits : (words : ℕ) (t : TransferState) → IsTrue (fits t words) → IfSome (after_row t) (λ x. IsTrue (fits x words))
+unfolding after_row
+rest_fits words t may = left_fits words (nat_lt (t.moved + 1) t.rows) t may
 
--- before the first
-pub stored_none : (plan : TransferPlan) (vpm old : List ℕ) → IsStored plan vpm old old 0
-unfolding memory_stored
-stored_none plan vpm old = record { is = refl; long = refl }
+-- one element of a load
+value_is : (inside : Bool) (here value : ℕ) → ◌≡◌ {A = Option ℕ} (if inside then Some here else None) (Some value) → value ≡ here
+value_is true here value e = let same : here ≡ value = cc in sym same
+value_is false here value e = absurd (cc)
 
--- one pair more
-pub stored_more : {plan : TransferPlan} {vpm old now next : List ℕ} {k : ℕ} (pair : Pair) → slice_get (transfer_pairs plan) k ≡ Some pair → pair.word < length old
-    → next ≡ (if nat_lt pair.word (length now) then set now pair.word (get_or vpm (cell pair.row pair.column) 0) else now) → IsStored plan vpm old now k → IsStored plan vpm old next (k + 1)
-unfolding memory_stored
-stored_more {plan} {vpm} {old} {now} {next} {k} pair here low made before =
-    let f : List ℕ → Pair → List ℕ = λ (memory : List ℕ) (p : Pair). set memory p.word (get_or vpm (cell p.row p.column) 0) in
-    let t : nat_lt pair.word (length now) ≡ true = let e : pair.word < length now = omega (arith, before.long) in grind (arith, nat_tests) in
-    let set_is : next ≡ set now pair.word (get_or vpm (cell pair.row pair.column) 0) = made ∙ rw t refl in
-    let step = fold_more f old (transfer_pairs plan) k pair (slice_get_within (transfer_pairs plan) k pair here) in
-    record {
-      is = set_is ∙ (ap (λ (memory : List ℕ). f memory pair) before.is ∙ sym (step ∙ ap (f (fold f old (take k (transfer_pairs plan)))) (get_or_from_slice_get (transfer_pairs plan) k pair pair here)));
-      long = ap length set_is ∙ (length-set now pair.word (get_or vpm (cell pair.row pair.column) 0) ∙ before.long);
-    }
+pub one_loaded : (h : SharedState) (pair : Pair) (value : ℕ) → element h.memory pair.at pair.size ≡ Some value
+    → record h { vpm = with_part h.vpm pair.place pair.size value } ≡ with_carried LoadOf h (pair ∷ [])
+unfolding carried
+one_loaded h pair value there =
+    ap (λ (v : ℕ). record h { vpm = with_part h.vpm pair.place pair.size v }) (value_is (nat_lt (pair.at / 4) (length h.memory)) _ value there)
 
--- after the last
-pub stored_all : {plan : TransferPlan} {vpm old now : List ℕ} {k : ℕ} → pair_count plan ≤ k → IsStored plan vpm old now k → now ≡ memory_stored (transfer_pairs plan) vpm old
-unfolding memory_stored
-stored_all {plan} {vpm} {old} {now} {k} high done = done.is ∙ rw (take_all k (transfer_pairs plan) (omega (arith, length-transfer_pairs plan))) refl
+-- one element of a store
+pub one_stored : (h : SharedState) (pair : Pair) (value : ℕ) → pair.at / 4 < length h.memory → value ≡ part h.vpm pair.place pair.size
+    → record h { memory = (if nat_lt (pair.at / 4) (length h.memory) then with_part h.memory pair.at pair.size value else h.memory) } ≡ with_carried StoreOf h (pair ∷ [])
+unfolding carried
+one_stored h pair value low is =
+    let test : nat_lt (pair.at / 4) (length h.memory) ≡ true = grind (arith, nat_tests) in
+    rw test (ap (λ (v : ℕ). record h { memory = with_part h.memory pair.at pair.size v }) is)

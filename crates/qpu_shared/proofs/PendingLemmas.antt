@@ -6,12 +6,14 @@ use Rattle.std.proofs.lemmas.List.Elements.{All-set}
 use Rattle.std.specs.Prelude.{All, slice_index_or, slice_set}
 use Rattle.qpu_word.specs.declared.word.Fields.{Fields}
 use Rattle.qpu_word.specs.declared.traffic.Outs.{Outs}
-use Rattle.qpu_dma.specs.declared.transfer.Transfer.{Transfer}
-use Rattle.qpu_dma.specs.Transfers.{TransferPlan, load_plan, store_plan}
+use Rattle.qpu_dma.specs.declared.direction.Direction.{Direction}
+use Rattle.qpu_dma.specs.declared.direction.Direction.TheVariants.{Load as LoadOf, Store as StoreOf}
+use Rattle.qpu_dma.specs.Transfers.{TransferState}
 use Rattle.qpu_shared.specs.declared.pending.Pending.{Pending}
 use Rattle.qpu_shared.specs.declared.starts.Begun.{Begun}
 use Rattle.qpu_shared.specs.SharedState.{nothing_pending}
 use Rattle.qpu_shared.specs.Instruction.{or_pending, pending_after}
+use Rattle.qpu_shared.specs.Moves.{with_transfer}
 use Rattle.qpu_shared.specs.Views.{IsFitting, HasFitting}
 
 -- an entry that is there doesn't depend on what stands for one that isn't
@@ -19,19 +21,24 @@ pub entry_same : (pending : List Pending) (q : ℕ) (d : Pending) → q < length
 entry_same pending q d there = get_or_default pending q d nothing_pending there
 
 -- a transfer that starts, or the one that was pending, fits
-or_fits : (plan : Transfer → TransferPlan) (words : ℕ) (starts pending : Option Transfer) → IsFitting plan words starts → IsFitting plan words pending
-    → IsFitting plan words (or_pending starts pending)
-or_fits plan words None pending first second = second
-or_fits plan words (Some t) pending first second = first
+or_fits : (words : ℕ) (starts pending : Option TransferState) → IsFitting words starts → IsFitting words pending → IsFitting words (or_pending starts pending)
+or_fits words None pending first second = second
+or_fits words (Some t) pending first second = first
 
 -- what is pending after an instruction fits, where what starts and what was pending does
-pub started_after : (f : Fields) (outs : Outs) (starts : Begun) (words : ℕ) (pending : Pending) → IsFitting load_plan words starts.load
-    → IsFitting store_plan words starts.store → HasFitting words pending → HasFitting words (pending_after f outs starts pending)
+pub started_after : (f : Fields) (outs : Outs) (starts : Begun) (words : ℕ) (pending : Pending) → IsFitting words starts.load
+    → IsFitting words starts.store → HasFitting words pending → HasFitting words (pending_after f outs starts pending)
 unfolding pending_after
 started_after f outs starts words pending load store before = record {
-  load = or_fits load_plan words starts.load pending.load load before.load;
-  store = or_fits store_plan words starts.store pending.store store before.store;
+  load = or_fits words starts.load pending.load load before.load;
+  store = or_fits words starts.store pending.store store before.store;
 }
+
+-- a transfer is replaced by one that fits
+pub replaced_fits : (words : ℕ) (direction : Direction) (pending : Pending) (transfer : Option TransferState) → IsFitting words transfer → HasFitting words pending
+    → HasFitting words (with_transfer direction pending transfer)
+replaced_fits words LoadOf pending transfer fits before = record { load = fits; store = before.store }
+replaced_fits words StoreOf pending transfer fits before = record { load = before.load; store = fits }
 
 -- an entry is replaced by another that fits
 pub started_set : (words : ℕ) (pending : List Pending) (q : ℕ) (new : Pending) → HasFitting words new → All (HasFitting words) pending

@@ -21,10 +21,11 @@ use Rattle.qpu_word.specs.Setups.{take_vector, put_vector}
 use Rattle.qpu_word.specs.Processor.{ProcessorState}
 use Rattle.qpu_word.specs.Instruction.{outs_of, after_setups, after_uniform_to, then_after, branch_fails, done, is_link_point}
 use Rattle.qpu_sync.specs.Sync.{acquired, released, raised, lowered}
-use Rattle.qpu_vpm.specs.Cells.{vector_cells}
-use Rattle.qpu_vpm.specs.Values.{vpm_values, with_cells}
-use Rattle.qpu_dma.specs.declared.transfer.Transfer.{Transfer}
-use Rattle.qpu_dma.specs.Transfers.{TransferPlan, load_plan, store_plan, fits}
+use Rattle.qpu_vpm.specs.Cells.{setup_of, vector_places}
+use Rattle.qpu_vpm.specs.Values.{vpm_values, with_values}
+use Rattle.qpu_dma.specs.declared.direction.Direction.{Direction}
+use Rattle.qpu_dma.specs.declared.direction.Direction.TheVariants.{Load as LoadOf, Store as StoreOf}
+use Rattle.qpu_dma.specs.Transfers.{TransferState, transfer_of, fits}
 use Rattle.qpu_tmu.specs.declared.look_up.LookUp.{LookUp}
 use Rattle.qpu_tmu.specs.Looks.{LookupsState, queue_of, oldest_words, with_look}
 use Rattle.qpu_shared.specs.declared.cause.Cause.{Cause}
@@ -89,7 +90,7 @@ if_needed needed n = if needed then n else 0
 -- the vector of the next access of a setup; none reads zeros
 abbrev pub next_vector : Option Vectors → List ℕ → List ℕ
 next_vector None vpm = lanes (λ i. 0)
-next_vector (Some v) vpm = vpm_values vpm (vector_cells v.setup v.done)
+next_vector (Some v) vpm = vpm_values vpm (setup_of v.setup).size (vector_places (setup_of v.setup) v.done)
 
 -- words where they are there, else zeros
 abbrev pub or_zeros : Option (List ℕ) → List ℕ
@@ -135,22 +136,28 @@ abbrev pub after_vpm_write : Option Lanes → Book → Result Book FaultKind
 after_vpm_write None book = Ok book
 after_vpm_write (Some values) book = put_vector book
 
--- a transfer that starts: with which setup, or why not
-abbrev pub transfer_started : (Transfer → TransferPlan) → List ℕ → Option ℕ → ℕ → ℕ → Result (Option Transfer) FaultKind
-transfer_started plan memory None step address = Err NoSetup
-transfer_started plan memory (Some setup) step address =
-    let transfer : Transfer = record { setup = setup; step = step; address = address } in
-    if fits (plan transfer) (length memory) then Ok (Some transfer) else Err TransferFault
+-- the setup of a direction's transfers, and their pitch or stride
+abbrev pub setup_in : Direction → Book → Option ℕ
+setup_in LoadOf book = book.load
+setup_in StoreOf book = book.store
 
--- the load that starts, where there is one
-abbrev pub load_started : Option ℕ → Book → List ℕ → Result (Option Transfer) FaultKind
-load_started None book memory = Ok None
-load_started (Some address) book memory = transfer_started load_plan memory book.load book.load_pitch address
+abbrev pub step_in : Direction → Book → ℕ
+step_in LoadOf book = book.load_pitch
+step_in StoreOf book = book.store_stride
 
--- the store that starts, where there is one
-abbrev pub store_started : Option ℕ → Book → List ℕ → Result (Option Transfer) FaultKind
-store_started None book memory = Ok None
-store_started (Some address) book memory = transfer_started store_plan memory book.store book.store_stride address
+-- a transfer that may start, or why not
+abbrev pub if_fits : TransferState → List ℕ → Result (Option TransferState) FaultKind
+if_fits t memory = if fits t (length memory) then Ok (Some t) else Err TransferFault
+
+-- the transfer that starts with a setup at a byte address, or why not
+abbrev pub started_with : Direction → Option ℕ → ℕ → ℕ → List ℕ → Result (Option TransferState) FaultKind
+started_with direction None step address memory = Err NoSetup
+started_with direction (Some setup) step address memory = if_fits (transfer_of direction setup step address) memory
+
+-- the transfer of a direction that starts, where there is one
+abbrev pub transfer_started : Direction → Option ℕ → Book → List ℕ → Result (Option TransferState) FaultKind
+transfer_started direction None book memory = Ok None
+transfer_started direction (Some address) book memory = started_with direction (setup_in direction book) (step_in direction book) address memory
 
 -- the indexes of the words at byte addresses, whose low two bits are without effect
 abbrev pub word_indexes : Lanes → Lanes
@@ -167,8 +174,8 @@ unfoldable pub after_writes : Outs → List ℕ → Book → Result Begun FaultK
 after_writes outs memory book =
     then_after (after_vpm_write outs.vpm book) (λ b.
     then_after (after_setups outs b) (λ c.
-    then_after (load_started outs.load_at c memory) (λ load.
-    then_after (store_started outs.store_at c memory) (λ store.
+    then_after (transfer_started LoadOf outs.load_at c memory) (λ load.
+    then_after (transfer_started StoreOf outs.store_at c memory) (λ store.
     then_after (look_issued outs.look memory) (λ look.
     Ok (record { book = after_uniform_to outs.uniform_to c; load = load; store = store; look = look }))))))
 
@@ -178,7 +185,7 @@ after_writes outs memory book =
 abbrev pub vpm_after : Option Lanes → Option Vectors → List ℕ → List ℕ
 vpm_after None writes vpm = vpm
 vpm_after (Some values) None vpm = vpm
-vpm_after (Some values) (Some w) vpm = with_cells vpm (vector_cells w.setup w.done) values.v
+vpm_after (Some values) (Some w) vpm = with_values vpm (setup_of w.setup).size (vector_places (setup_of w.setup) w.done) values.v
 
 -- the holder of the mutex after a read that acquires it, where there is one
 abbrev pub after_acquire : Fields → ℕ → Option ℕ → Option ℕ
@@ -200,7 +207,7 @@ semaphores_after f counts =
     else raised counts f.number
 
 -- the transfer that starts, or the one that was pending
-abbrev pub or_pending : Option Transfer → Option Transfer → Option Transfer
+abbrev pub or_pending : Option TransferState → Option TransferState → Option TransferState
 or_pending None pending = pending
 or_pending (Some t) pending = Some t
 

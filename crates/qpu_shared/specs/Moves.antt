@@ -1,10 +1,12 @@
--- The moves of pending transfers and look-ups. That each is a step of its own is this project's own.
-use Rattle.std.specs.Prelude.{ℕ, List, [], map, fold, Option, Some, None, option_map, slice_index, slice_set, nat_lt, if◌then◌else◌}
+-- The moves of pending transfers and look-ups. That a row and a look-up are a step each is this
+-- project's own.
+use Rattle.std.specs.Prelude.{ℕ, List, [], map, Option, Some, None, option_map, slice_index, slice_set, nat_lt, if◌then◌else◌}
 use Rattle.qpu_word.specs.declared.code.TheConstants.{TMU_UNITS}
-use Rattle.qpu_vpm.specs.Cells.{cell}
+use Rattle.qpu_dma.specs.declared.direction.Direction.{Direction}
+use Rattle.qpu_dma.specs.declared.direction.Direction.TheVariants.{Load as LoadOf, Store as StoreOf}
 use Rattle.qpu_dma.specs.declared.Pair.{Pair}
-use Rattle.qpu_dma.specs.declared.transfer.Transfer.{Transfer}
-use Rattle.qpu_dma.specs.Transfers.{load_plan, store_plan, transfer_pairs}
+use Rattle.qpu_dma.specs.Transfers.{TransferState, row_pairs}
+use Rattle.qpu_dma.specs.Moves.{carried, after_row}
 use Rattle.qpu_tmu.specs.declared.look_up.LookUp.{LookUp}
 use Rattle.qpu_tmu.specs.Looks.{with_queue, next_look, with_words}
 use Rattle.qpu_shared.specs.declared.pending.Pending.{Pending}
@@ -15,31 +17,26 @@ use Rattle.qpu_shared.specs.Instruction.{pending_of, looks_of}
 abbrev pub with_pending : SharedState → ℕ → Pending → SharedState
 with_pending h q pending = record h { pending = slice_set h.pending q pending }
 
--- the VPM after the pairs of a load
-unfoldable pub vpm_loaded : List Pair → List ℕ → List ℕ → List ℕ
-vpm_loaded pairs memory vpm =
-    fold (λ vpm pair. slice_set vpm (cell pair.row pair.column) (slice_index memory pair.word)) vpm pairs
+-- the shared parts after elements are carried: a load's into the VPM, a store's into memory
+abbrev pub with_carried : Direction → SharedState → List Pair → SharedState
+with_carried LoadOf h pairs = record h { vpm = carried LoadOf h.memory h.vpm pairs }
+with_carried StoreOf h pairs = record h { memory = carried StoreOf h.vpm h.memory pairs }
 
--- memory after the pairs of a store
-unfoldable pub memory_stored : List Pair → List ℕ → List ℕ → List ℕ
-memory_stored pairs vpm memory =
-    fold (λ memory pair. slice_set memory pair.word (slice_index vpm (cell pair.row pair.column))) memory pairs
+-- the transfer of a direction that is pending
+abbrev pub transfer_in : Direction → Pending → Option TransferState
+transfer_in LoadOf pending = pending.load
+transfer_in StoreOf pending = pending.store
 
--- the shared parts after the move of a pending load, where there is one
-abbrev pub after_load : SharedState → ℕ → Option Transfer → Option SharedState
-after_load h q None = None
-after_load h q (Some t) =
-    Some (with_pending
-    (record h { vpm = vpm_loaded (transfer_pairs (load_plan t)) h.memory h.vpm })
-    q (record (pending_of h q) { load = None }))
+-- what is pending with the transfer of a direction replaced
+abbrev pub with_transfer : Direction → Pending → Option TransferState → Pending
+with_transfer LoadOf pending transfer = record pending { load = transfer }
+with_transfer StoreOf pending transfer = record pending { store = transfer }
 
--- the shared parts after the move of a pending store, where there is one
-abbrev pub after_store : SharedState → ℕ → Option Transfer → Option SharedState
-after_store h q None = None
-after_store h q (Some t) =
-    Some (with_pending
-    (record h { memory = memory_stored (transfer_pairs (store_plan t)) h.vpm h.memory })
-    q (record (pending_of h q) { store = None }))
+-- the shared parts after the next row of a pending transfer is moved, where there is one
+abbrev pub after_row_of : Direction → SharedState → ℕ → Option TransferState → Option SharedState
+after_row_of direction h q None = None
+after_row_of direction h q (Some t) =
+    Some (with_pending (with_carried direction h (row_pairs t t.moved)) q (with_transfer direction (pending_of h q) (after_row t)))
 
 -- the look-ups of a unit after the oldest that isn't fetched has its words from memory, where
 -- there is one
@@ -57,11 +54,8 @@ after_fetch h q unit (Some looks) =
     Some (with_pending h q (record (pending_of h q) { looks = with_queue (pending_of h q).looks unit looks }))
 
 -- the shared parts after each kind of move of a processor, none where it has none to make
-unfoldable pub load_moved : SharedState → ℕ → Option SharedState
-load_moved h q = after_load h q (pending_of h q).load
-
-unfoldable pub store_moved : SharedState → ℕ → Option SharedState
-store_moved h q = after_store h q (pending_of h q).store
+unfoldable pub row_moved : Direction → SharedState → ℕ → Option SharedState
+row_moved direction h q = after_row_of direction h q (transfer_in direction (pending_of h q))
 
 unfoldable pub fetch_moved : SharedState → ℕ → ℕ → Option SharedState
 fetch_moved h q unit = after_fetch h q unit (fetched h.memory (unit_looks (pending_of h q) unit))

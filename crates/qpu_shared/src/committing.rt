@@ -3,9 +3,8 @@ ghost use Rattle.std.specs.Prelude.{◌≡◌, ◌≢◌, ◌<◌, ◌≤◌, �
 ghost use Rattle.qpu_word.specs.declared.code.TheConstants.{READ_MUTEX, SEMAPHORE_MOST, LOOK_UPS};
 ghost use Rattle.qpu_word.specs.Processor.{ProcessorState};
 ghost use Rattle.qpu_word.specs.Words.{reads, is_semaphore, is_tmu_load};
-ghost use Rattle.qpu_vpm.specs.Cells.{vector_cells};
-ghost use Rattle.qpu_vpm.specs.Values.{with_cells};
-ghost use Rattle.qpu_dma.specs.Transfers.{load_plan, store_plan};
+ghost use Rattle.qpu_vpm.specs.Cells.{setup_of, vector_places};
+ghost use Rattle.qpu_vpm.specs.Values.{with_values};
 ghost use Rattle.qpu_tmu.specs.Looks.{queue_of, with_queue, oldest_words};
 ghost use Rattle.qpu_shared.specs.Views.{IsFitting};
 ghost use Rattle.qpu_shared.specs.Free.{IsFree};
@@ -74,7 +73,7 @@ impl Pending {
 impl Shared {
     /// Writes a vector at an access of a setup.
     fn put_vector(&mut self, values: &Lanes, access: Vectors)
-        ensures { self.new ≡ record self.old { vpm = with_cells self.old.vpm (vector_cells access.setup access.done) values.now.v } }
+        ensures { self.new ≡ record self.old { vpm = with_values self.old.vpm (setup_of access.setup).size (vector_places (setup_of access.setup) access.done) values.now.v } }
     {
         let setup = VectorSetup::of(access.setup);
         self.vpm.put_vector(setup, access.done, values);
@@ -132,8 +131,8 @@ impl Shared {
         requires take0 { (is_tmu_load f.now 0 && is_none (oldest_words (looks_of (pending_of self.old q) 0))) ≡ false }
         requires take1 { (is_tmu_load f.now 1 && is_none (oldest_words (looks_of (pending_of self.old q) 1))) ≡ false }
         requires room { IsSome starts.now.look → length (looks_of (pending_of self.old q) outs.now.look_unit) < LOOK_UPS }
-        requires load { IsFitting load_plan (length self.old.memory) starts.now.load }
-        requires store { IsFitting store_plan (length self.old.memory) starts.now.store }
+        requires load { IsFitting (length self.old.memory) starts.now.load }
+        requires store { IsFitting (length self.old.memory) starts.now.store }
         ensures { self.new ≡ with_pending self.old q (pending_after f.now outs.now starts.now (pending_of self.old q)) }
     {
         self.pending[q as usize].go_on(f, outs, starts);
@@ -147,8 +146,8 @@ impl Shared {
         requires unit { outs.now.look_unit < 2 }
         requires free { IsFree f.now q self.old }
         requires room { IsSome starts.now.look → length (looks_of (pending_of self.old q) outs.now.look_unit) < LOOK_UPS }
-        requires load { IsFitting load_plan (length self.old.memory) starts.now.load }
-        requires store { IsFitting store_plan (length self.old.memory) starts.now.store }
+        requires load { IsFitting (length self.old.memory) starts.now.load }
+        requires store { IsFitting (length self.old.memory) starts.now.store }
         ensures { (p : ProcessorState) → p.q ≡ q → p.book ≡ before.now → self.new ≡ shared_after f.now p outs.now starts.now self.old }
     {
         self.put_vpm(&outs.vpm, before.writes);

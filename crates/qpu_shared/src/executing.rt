@@ -4,7 +4,6 @@ ghost use Rattle.qpu_word.specs.Words.{fields_of, is_branch, IsInProfile};
 ghost use Rattle.qpu_word.specs.Books.{IsSoundBook};
 ghost use Rattle.qpu_word.specs.declared.state.Halt.TheVariants.{Going};
 ghost use Rattle.qpu_word.specs.Instruction.{then_after};
-ghost use Rattle.qpu_dma.specs.Transfers.{load_plan, store_plan};
 ghost use Rattle.qpu_shared.specs.Instruction.{after_reads, after_writes, first_cause, instruction_result, outcome_under, pending_of};
 ghost use Rattle.qpu_shared.specs.Exec.{Does, HasRoom};
 ghost use Rattle.qpu_shared.specs.Views.{IsFitting};
@@ -21,8 +20,8 @@ impl Shared {
         requires { IsSoundBook book }
         ensures value { result ≡ then_after (after_reads f.now self.now.memory book) (λ b. after_writes outs.now self.now.memory b) }
         ensures sound { IfOk result (λ starts. IsSoundBook starts.book) }
-        ensures load { IfOk result (λ starts. IsFitting load_plan (length self.now.memory) starts.load) }
-        ensures store { IfOk result (λ starts. IsFitting store_plan (length self.now.memory) starts.store) }
+        ensures load { IfOk result (λ starts. IsFitting (length self.now.memory) starts.load) }
+        ensures store { IfOk result (λ starts. IsFitting (length self.now.memory) starts.store) }
         ensures sent { IfOk result (λ starts. IsSome starts.look → IsSome outs.now.look) }
     {
         let book = self.after_reads(f, book)?;

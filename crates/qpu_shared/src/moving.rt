@@ -1,124 +1,142 @@
 //! The moves of pending transfers and look-ups.
-ghost use Rattle.std.specs.Prelude.{◌≡◌, ◌<◌, None, length, map, slice_index, option_map, IsTrue, IsSome, IfSome};
-ghost use Rattle.qpu_dma.specs.Transfers.{load_plan, store_plan, transfer_pairs, fits};
+ghost use Rattle.std.specs.Prelude.{◌≡◌, ◌<◌, ◌/◌, ◌∷◌, [], length, map, slice_index, option_map, IsTrue, IsSome};
+ghost use Rattle.qpu_word.specs.declared.code.TheConstants.{VPM_BYTES};
+ghost use Rattle.qpu_bytes.specs.Elements.{is_place};
+ghost use Rattle.qpu_dma.specs.declared.direction.Direction.TheVariants.{Load as LoadOf, Store as StoreOf};
+ghost use Rattle.qpu_dma.specs.Transfers.{row_pairs, fits};
 ghost use Rattle.qpu_tmu.specs.Looks.{next_look, with_queue, with_words, queue_of};
 ghost use Rattle.qpu_shared.specs.Exec.{Moves};
 ghost use Rattle.qpu_shared.specs.Instruction.{pending_of};
-ghost use Rattle.qpu_shared.specs.Moves.{vpm_loaded, memory_stored, with_pending, unit_looks, load_moved, store_moved, fetch_moved};
+ghost use Rattle.qpu_shared.specs.Moves.{transfer_in, with_transfer, with_carried, with_pending, unit_looks, row_moved, fetch_moved};
 ghost use Rattle.qpu_shared.specs.Views.{IsFitting};
 
+use crate::pending::Pending;
 use crate::shared::Shared;
-use qpu_dma::{LoadPlan, StorePlan, Transfer};
-use qpu_mem::Memory;
-use qpu_vpm::Vpm;
+use qpu_dma::{Direction, Pair, Transfer};
 use qpu_word::code::TMU_UNITS;
 use qpu_word::{LANES, Lanes};
 
-/// Carries all pairs of a load, which fits, from memory to the VPM.
-fn carry_load(transfer: Transfer, memory: &Memory, vpm: &mut Vpm)
-    requires { IsTrue (fits (load_plan transfer) (length memory.now)) }
-    ensures { vpm.new ≡ vpm_loaded (transfer_pairs (load_plan transfer)) memory.now vpm.old }
-{
-    let Ok(plan) = LoadPlan::of(
-        transfer.setup,
-        transfer.step,
-        transfer.address,
-        memory.len(),
-    ) else {
-        unreachable!()
-    };
-    for k in 0..plan.rows() * plan.length() {
-        let pair = plan.pair(k);
-        let Some(word) = memory.word(pair.word) else {
-            unreachable!()
-        };
-        vpm.set(pair.row, pair.column, word);
+impl Pending {
+    /// The transfer of a direction.
+    pub(crate) fn transfer(&self, direction: Direction) -> Option<Transfer>
+        ensures { result ≡ transfer_in direction self.now }
+    {
+        match direction {
+            Direction::Load => self.load,
+            Direction::Store => self.store,
+        }
     }
-}
 
-/// Carries all pairs of a store, which fits, from the VPM to memory.
-fn carry_store(transfer: Transfer, vpm: &Vpm, memory: &mut Memory)
-    requires { IsTrue (fits (store_plan transfer) (length memory.old)) }
-    ensures stored { memory.new ≡ memory_stored (transfer_pairs (store_plan transfer)) vpm.now memory.old }
-    ensures long { length memory.new ≡ length memory.old }
-{
-    let Ok(plan) = StorePlan::of(
-        transfer.setup,
-        transfer.step,
-        transfer.address,
-        memory.len(),
-    ) else {
-        unreachable!()
-    };
-    for k in 0..plan.rows() * plan.length() {
-        let pair = plan.pair(k);
-        memory.set(pair.word, vpm.word(pair.row, pair.column));
+    /// Replaces the transfer of a direction.
+    fn set_transfer(&mut self, direction: Direction, transfer: Option<Transfer>)
+        ensures { self.new ≡ with_transfer direction self.old transfer }
+    {
+        match direction {
+            Direction::Load => self.load = transfer,
+            Direction::Store => self.store = transfer,
+        }
     }
 }
 
 impl Shared {
-    /// The load that processor q has pending; it fits memory.
-    fn load_of(&self, q: u32) -> Option<Transfer>
-        ensures load { result ≡ (pending_of self.now q).load }
-        ensures fits { IsFitting load_plan (length self.now.memory) result }
+    /// The transfer of a direction that processor q has pending; it fits memory.
+    fn transfer_at(&self, direction: Direction, q: u32) -> Option<Transfer>
+        ensures is { result ≡ transfer_in direction (pending_of self.now q) }
+        ensures fits { IsFitting (length self.now.memory) result }
         ensures there { IsSome result → q < 12 }
     {
-        self.pending.get(q as usize)?.load
+        self.pending.get(q as usize)?.transfer(direction)
     }
 
-    /// The store that processor q has pending; it fits memory.
-    fn store_of(&self, q: u32) -> Option<Transfer>
-        ensures store { result ≡ (pending_of self.now q).store }
-        ensures fits { IsFitting store_plan (length self.now.memory) result }
-        ensures there { IsSome result → q < 12 }
+    /// The load that processor q has pending, with the rows of it that were moved; none exactly where
+    /// none is pending.
+    pub fn load_at(&self, q: u32) -> Option<Transfer>
+        ensures { result ≡ (pending_of self.now q).load }
     {
-        self.pending.get(q as usize)?.store
+        self.transfer_at(Direction::Load, q)
     }
 
-    /// Carries the pending load of processor q.
-    fn finish_load(&mut self, q: u32, transfer: Transfer)
+    /// The store that processor q has pending, with the rows of it that were moved; none exactly where
+    /// none is pending.
+    pub fn store_at(&self, q: u32) -> Option<Transfer>
+        ensures { result ≡ (pending_of self.now q).store }
+    {
+        self.transfer_at(Direction::Store, q)
+    }
+
+    /// Carries one element, whose places lie in memory and in the VPM.
+    fn carry(&mut self, direction: Direction, pair: Pair)
+        requires word { pair.at / 4 < length self.old.memory }
+        requires place { pair.place < VPM_BYTES }
+        requires at_whole { IsTrue (is_place pair.at pair.size) }
+        requires place_whole { IsTrue (is_place pair.place pair.size) }
+        ensures carried { self.new ≡ with_carried direction self.old (pair ∷ []) }
+        ensures long { length self.new.memory ≡ length self.old.memory }
+    {
+        match direction {
+            Direction::Load => {
+                let Some(value) = self.memory.part(pair.at, pair.size) else {
+                    unreachable!()
+                };
+                self.vpm.set_part(pair.place, pair.size, value);
+            }
+            Direction::Store => {
+                let value = self.vpm.part(pair.place, pair.size);
+                self.memory.set_part(pair.at, pair.size, value);
+            }
+        }
+    }
+
+    /// Carries the elements of the next row of a transfer, which fits.
+    fn carry_row(&mut self, direction: Direction, transfer: Transfer)
+        requires { IsTrue (fits transfer (length self.old.memory)) }
+        ensures carried { self.new ≡ with_carried direction self.old (row_pairs transfer transfer.moved) }
+        ensures long { length self.new.memory ≡ length self.old.memory }
+        ensures pending { self.new.pending ≡ self.old.pending }
+    {
+        let row = transfer.moved();
+        for j in 0..transfer.length() {
+            self.carry(direction, transfer.pair(row, j));
+        }
+    }
+
+    /// Replaces the transfer of a direction that processor q has pending by one that fits, or by none.
+    fn put_transfer(&mut self, direction: Direction, q: u32, transfer: Option<Transfer>)
         requires q { q < 12 }
-        requires fits { IsTrue (fits (load_plan transfer) (length self.old.memory)) }
-        ensures { self.new ≡ with_pending (record self.old { vpm = vpm_loaded (transfer_pairs (load_plan transfer)) self.old.memory self.old.vpm }) q (record (pending_of self.old q) { load = None }) }
+        requires fits { IsFitting (length self.old.memory) transfer }
+        ensures { self.new ≡ with_pending self.old q (with_transfer direction (pending_of self.old q) transfer) }
     {
-        carry_load(transfer, &self.memory, &mut self.vpm);
-        self.pending[q as usize].load = None;
+        self.pending[q as usize].set_transfer(direction, transfer);
     }
 
-    /// Carries the pending store of processor q.
-    fn finish_store(&mut self, q: u32, transfer: Transfer)
-        requires q { q < 12 }
-        requires fits { IsTrue (fits (store_plan transfer) (length self.old.memory)) }
-        ensures { self.new ≡ with_pending (record self.old { memory = memory_stored (transfer_pairs (store_plan transfer)) self.old.vpm self.old.memory }) q (record (pending_of self.old q) { store = None }) }
+    /// Moves the next row of a transfer that processor q has pending. False exactly where none is
+    /// pending; then nothing changes.
+    #[tactic(auto, unfolding(crate::specs::Moves::row_moved))]
+    fn move_row(&mut self, direction: Direction, q: u32) -> bool
+        ensures { Moves result (row_moved direction self.old q) self.old self.new }
     {
-        carry_store(transfer, &self.vpm, &mut self.memory);
-        self.pending[q as usize].store = None;
+        let Some(transfer) = self.transfer_at(direction, q) else {
+            return false;
+        };
+        self.carry_row(direction, transfer);
+        self.put_transfer(direction, q, transfer.next());
+        true
     }
 
-    /// Makes the one move of the load that processor q has pending: all its words at once. False
-    /// exactly where none is pending; then nothing changes.
-    #[tactic(auto, unfolding(crate::specs::Moves::load_moved))]
+    /// Moves the next row of the load that processor q has pending; after its last row it isn't
+    /// pending. False exactly where none is pending; then nothing changes.
     pub fn move_load(&mut self, q: u32) -> bool
-        ensures { Moves result (load_moved self.old q) self.old self.new }
+        ensures { Moves result (row_moved LoadOf self.old q) self.old self.new }
     {
-        let Some(transfer) = self.load_of(q) else {
-            return false;
-        };
-        self.finish_load(q, transfer);
-        true
+        self.move_row(Direction::Load, q)
     }
 
-    /// Makes the one move of the store that processor q has pending: all its words at once. False
-    /// exactly where none is pending; then nothing changes.
-    #[tactic(auto, unfolding(crate::specs::Moves::store_moved))]
+    /// Moves the next row of the store that processor q has pending; after its last row it isn't
+    /// pending. False exactly where none is pending; then nothing changes.
     pub fn move_store(&mut self, q: u32) -> bool
-        ensures { Moves result (store_moved self.old q) self.old self.new }
+        ensures { Moves result (row_moved StoreOf self.old q) self.old self.new }
     {
-        let Some(transfer) = self.store_of(q) else {
-            return false;
-        };
-        self.finish_store(q, transfer);
-        true
+        self.move_row(Direction::Store, q)
     }
 
     /// The indexes of the oldest look-up of TMU unit u of processor q that isn't fetched.

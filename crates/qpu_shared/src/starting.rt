@@ -1,14 +1,13 @@
 //! What an instruction starts and issues, and why it may not.
 ghost use Rattle.std.specs.Prelude.{◌≡◌, ◌/◌, nat_lt, length, IfOk, IsSome};
 ghost use Rattle.std.specs.List.{list_all};
-ghost use Rattle.qpu_dma.specs.Transfers.{load_plan, store_plan};
 ghost use Rattle.qpu_word.specs.Books.{IsSoundBook};
 ghost use Rattle.qpu_shared.specs.Views.{IsFitting};
-ghost use Rattle.qpu_shared.specs.Instruction.{after_vpm_write, transfer_started, load_started, store_started, word_indexes, look_issued, after_writes};
+ghost use Rattle.qpu_shared.specs.Instruction.{after_vpm_write, started_with, transfer_started, word_indexes, look_issued, after_writes};
 
 use crate::shared::Shared;
 use crate::starts::Begun;
-use qpu_dma::{LoadPlan, StorePlan, Transfer};
+use qpu_dma::{Direction, Transfer};
 use qpu_word::code::WORD_BYTES;
 use qpu_word::{Book, FaultKind, LANES, Lanes, Outs};
 
@@ -38,63 +37,43 @@ fn word_indexes(addresses: &Lanes) -> Lanes
 }
 
 impl Shared {
-    /// A load with a setup, where one was given: `NoSetup` where none was, `Transfer` where it
+    /// A transfer with a setup, where one was given: `NoSetup` where none was, `Transfer` where it
     /// doesn't fit.
-    fn start_load(&self, book: &Book, address: u32) -> Result<Option<Transfer>, FaultKind>
-        ensures value { result ≡ transfer_started load_plan self.now.memory book.now.load book.now.load_pitch address }
-        ensures fits { IfOk result (λ transfer. IsFitting load_plan (length self.now.memory) transfer) }
+    fn start(
+        &self,
+        direction: Direction,
+        setup: Option<u32>,
+        step: u32,
+        address: u32,
+    ) -> Result<Option<Transfer>, FaultKind>
+        ensures value { result ≡ started_with direction setup step address self.now.memory }
+        ensures fits { IfOk result (λ transfer. IsFitting (length self.now.memory) transfer) }
     {
-        let Some(setup) = book.load else {
+        let Some(setup) = setup else {
             return Err(FaultKind::NoSetup);
         };
-        match LoadPlan::of(setup, book.load_pitch, address, self.memory.len()) {
-            Ok(_) => Ok(Some(Transfer {
-                setup,
-                step: book.load_pitch,
-                address,
-            })),
+        match Transfer::of(direction, setup, step, address, self.memory.len()) {
+            Ok(transfer) => Ok(Some(transfer)),
             Err(_) => Err(FaultKind::Transfer),
         }
     }
 
-    /// The load that starts, where there is one.
-    fn load_started(&self, at: Option<u32>, book: &Book) -> Result<Option<Transfer>, FaultKind>
-        ensures value { result ≡ load_started at book.now self.now.memory }
-        ensures fits { IfOk result (λ transfer. IsFitting load_plan (length self.now.memory) transfer) }
+    /// The transfer of a direction that starts, where there is one.
+    fn transfer_started(
+        &self,
+        direction: Direction,
+        at: Option<u32>,
+        book: &Book,
+    ) -> Result<Option<Transfer>, FaultKind>
+        ensures value { result ≡ transfer_started direction at book.now self.now.memory }
+        ensures fits { IfOk result (λ transfer. IsFitting (length self.now.memory) transfer) }
     {
-        match at {
-            Some(address) => self.start_load(book, address),
-            None => Ok(None),
-        }
-    }
-
-    /// A store with a setup, where one was given: `NoSetup` where none was, `Transfer` where it
-    /// doesn't fit.
-    fn start_store(&self, book: &Book, address: u32) -> Result<Option<Transfer>, FaultKind>
-        ensures value { result ≡ transfer_started store_plan self.now.memory book.now.store book.now.store_stride address }
-        ensures fits { IfOk result (λ transfer. IsFitting store_plan (length self.now.memory) transfer) }
-    {
-        let Some(setup) = book.store else {
-            return Err(FaultKind::NoSetup);
+        let Some(address) = at else {
+            return Ok(None);
         };
-        match StorePlan::of(setup, book.store_stride, address, self.memory.len()) {
-            Ok(_) => Ok(Some(Transfer {
-                setup,
-                step: book.store_stride,
-                address,
-            })),
-            Err(_) => Err(FaultKind::Transfer),
-        }
-    }
-
-    /// The store that starts, where there is one.
-    fn store_started(&self, at: Option<u32>, book: &Book) -> Result<Option<Transfer>, FaultKind>
-        ensures value { result ≡ store_started at book.now self.now.memory }
-        ensures fits { IfOk result (λ transfer. IsFitting store_plan (length self.now.memory) transfer) }
-    {
-        match at {
-            Some(address) => self.start_store(book, address),
-            None => Ok(None),
+        match direction {
+            Direction::Load => self.start(direction, book.load, book.load_pitch, address),
+            Direction::Store => self.start(direction, book.store, book.store_stride, address),
         }
     }
 
@@ -133,14 +112,14 @@ impl Shared {
         requires { IsSoundBook book }
         ensures value { result ≡ after_writes outs.now self.now.memory book }
         ensures sound { IfOk result (λ starts. IsSoundBook starts.book) }
-        ensures load { IfOk result (λ starts. IsFitting load_plan (length self.now.memory) starts.load) }
-        ensures store { IfOk result (λ starts. IsFitting store_plan (length self.now.memory) starts.store) }
+        ensures load { IfOk result (λ starts. IsFitting (length self.now.memory) starts.load) }
+        ensures store { IfOk result (λ starts. IsFitting (length self.now.memory) starts.store) }
         ensures sent { IfOk result (λ starts. IsSome starts.look → IsSome outs.now.look) }
     {
         let book = after_vpm_write(&outs.vpm, book)?;
         let book = book.with_setups(outs)?;
-        let load = self.load_started(outs.load_at, &book)?;
-        let store = self.store_started(outs.store_at, &book)?;
+        let load = self.transfer_started(Direction::Load, outs.load_at, &book)?;
+        let store = self.transfer_started(Direction::Store, outs.store_at, &book)?;
         let look = self.look_issued(&outs.look)?;
         Ok(Begun {
             book: book.with_uniform_to(outs.uniform_to),

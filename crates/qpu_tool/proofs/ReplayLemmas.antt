@@ -3,8 +3,10 @@ use Rattle.std.proofs.Common.{◌≡◌, ◌≢◌, ◌⊎◌, inl, inr, ℕ, �
 use Rattle.std.specs.Prelude.{◌==◌, true, false}
 use Rattle.qpu_machine.specs.declared.actor.Actor.{Actor}
 use Rattle.qpu_machine.specs.declared.conclusion.Ending.{Ending}
+use Rattle.qpu_machine.specs.declared.journal.Run.{Run}
 use Rattle.qpu_machine.specs.Machine.{MachineState, machine_of}
 use Rattle.qpu_machine.specs.Ending.{ending_of}
+use Rattle.qpu_machine.specs.Journal.{steps_of}
 use Rattle.qpu_machine.specs.Schedule.{After}
 use Rattle.qpu_job.specs.Plan.{Plan}
 use Rattle.qpu_job.specs.Opening.{memory_of, opening_machine}
@@ -12,12 +14,17 @@ use Rattle.qpu_job.proofs.MayOpenLaw.{read_jobs_may_open}
 use Rattle.qpu_record.specs.declared.fault.RecordFault.{RecordFault}
 use Rattle.qpu_record.specs.declared.fault.RecordFault.TheVariants as record_fault
 use Rattle.qpu_text.specs.Lines.{line_feeds}
+use Rattle.qpu_record.specs.declared.parts.Version.{Version}
+use Rattle.qpu_record.specs.declared.parts.Version.TheVariants.{First, Second}
 use Rattle.qpu_record.specs.Record.{merged, record_text}
 use Rattle.qpu_record.specs.Reading.{Parts, Fails, record_of}
 use Rattle.qpu_report.specs.Report.{report_text}
 use Rattle.qpu_replay.specs.declared.fault.ReplayFault.{ReplayFault}
+use Rattle.qpu_replay.specs.declared.fault.WidenFault.TheVariants.{Replay}
 use Rattle.qpu_replay.specs.Replay.{IsComplete, IsFault, Replays}
-use Rattle.qpu_replay.proofs.AnswerLemmas.{one_answer}
+use Rattle.qpu_replay.specs.Widened.{AfterWhole, FailsBy, IsWidened}
+use Rattle.qpu_replay.proofs.AnswerLemmas.{one_far, no_fault, one_fault, by_steps}
+use Rattle.qpu_replay.proofs.WidenLemmas.{by_whole, widens_after}
 use Rattle.qpu_printed.proofs.AsciiLemmas.{IsLow, all_low, low_all, low_append}
 use Rattle.qpu_printed.proofs.HighLemmas.{none_high, none_high_back}
 use Rattle.qpu_printed.proofs.RecordAscii.{records_ascii}
@@ -32,7 +39,7 @@ use Rattle.qpu_tool.specs.Ascii.{IsAscii}
 use Rattle.qpu_tool.specs.Answer.{status_of}
 use Rattle.qpu_tool.specs.Opening.{OpensJob, JobRefusal}
 use Rattle.qpu_tool.specs.Running.{CanRun}
-use Rattle.qpu_tool.specs.Replaying.{OpensRecord, RecordAnswer, no_record, no_start, not_taken, other_report, replayed, differing_line, IsUnlike}
+use Rattle.qpu_tool.specs.Replaying.{leads_by, OpensRecord, RecordAnswer, no_record, no_start, not_taken, other_report, replayed, differing_line, IsUnlike}
 use Rattle.qpu_tool.specs.Causes.{IsOfText}
 use Rattle.qpu_tool.proofs.DifferLemmas.{differs_not, same_texts}
 use Rattle.qpu_tool.proofs.OpenLemmas.{one_opening, one_refused, never_refused, refusal_of_text}
@@ -52,30 +59,44 @@ not_started text parts other m why o is refusal =
     never_refused parts.job m why o.opens (subst (λ (p : Parts). JobRefusal p.job why) (one_value (record_of text) other parts is o.is_record) refusal)
 
 -- its steps have one outcome
-one_replay : (text : List ℕ) (parts other : Parts) (m n k l : MachineState) (a b : Result Ending ReplayFault) → OpensRecord text parts m → OpensRecord text other n
-    → Replays a m parts.runs k → Replays b n other.runs l → (a ≡ b) × (k ≡ l)
-one_replay text parts other m n k l a b p q first second =
-    let same = one_record text parts other m n p q in
-    let there : Replays a n other.runs k =
-    subst (λ (x : MachineState). Replays a x other.runs k) same.1 (subst (λ (p : Parts). Replays a m p.runs k) same.0 first) in
-    one_answer a b n k l other.runs there second
+
+fault_by : (version : Version) (e f : ReplayFault) (m k l : MachineState) (runs : List Run) → IsFault (leads_by version) e m runs k → IsFault (leads_by version) f m runs l → e ≡ f
+fault_by First e f m k l runs first second = (one_fault e f m k l runs by_whole first second).0
+fault_by Second e f m k l runs first second = (one_fault e f m k l runs by_steps first second).0
+
+not_by : (version : Version) (e : ReplayFault) (m k l : MachineState) (runs : List Run) → IsComplete (leads_by version) m runs k → IsFault (leads_by version) e m runs l → ⊥
+not_by First e m k l runs whole fails = no_fault e l by_whole whole fails
+not_by Second e m k l runs whole fails = no_fault e l by_steps whole fails
+
+end_by : (version : Version) (m k l : MachineState) (runs : List Run) → IsComplete (leads_by version) m runs k → IsComplete (leads_by version) m runs l → k ≡ l
+end_by First m k l runs first second = one_far by_whole first.after second.after
+end_by Second m k l runs first second = one_far by_steps first.after second.after
+
+-- whichever parts and machine the text is said to open
+
+fault_of : (parts other : Parts) (m n k : MachineState) (e : ReplayFault) → (parts ≡ other) × (m ≡ n) → IsFault (leads_by parts.version) e m parts.runs k → IsFault (leads_by other.version) e n other.runs k
+fault_of parts other m n k e same fails =
+    subst (λ (x : MachineState). IsFault (leads_by other.version) e x other.runs k) same.1 (subst (λ (p : Parts). IsFault (leads_by p.version) e m p.runs k) same.0 fails)
+
+complete_of : (parts other : Parts) (m n k : MachineState) → (parts ≡ other) × (m ≡ n) → IsComplete (leads_by parts.version) m parts.runs k → IsComplete (leads_by other.version) n other.runs k
+complete_of parts other m n k same whole =
+    subst (λ (x : MachineState). IsComplete (leads_by other.version) x other.runs k) same.1 (subst (λ (p : Parts). IsComplete (leads_by p.version) m p.runs k) same.0 whole)
 
 one_stop : (text : List ℕ) (parts other : Parts) (m n k l : MachineState) (e f : ReplayFault) → OpensRecord text parts m → OpensRecord text other n
-    → IsFault e m parts.runs k → IsFault f n other.runs l → e ≡ f
+    → IsFault (leads_by parts.version) e m parts.runs k → IsFault (leads_by other.version) f n other.runs l → e ≡ f
 one_stop text parts other m n k l e f p q first second =
-    one_error (Err e) e f refl (one_replay text parts other m n k l (Err e) (Err f) p q first second).0
+    fault_by other.version e f n k l other.runs (fault_of parts other m n k e (one_record text parts other m n p q) first) second
 
 not_stopped : (text : List ℕ) (parts other : Parts) (m n k l : MachineState) (e : ReplayFault) → OpensRecord text parts m → OpensRecord text other n
-    → IsComplete m parts.runs k → IsFault e n other.runs l → ⊥
+    → IsComplete (leads_by parts.version) m parts.runs k → IsFault (leads_by other.version) e n other.runs l → ⊥
 not_stopped text parts other m n k l e p q whole fails =
-    not_both (Ok (ending_of k)) (ending_of k) e refl (one_replay text parts other m n k l (Ok (ending_of k)) (Err e) p q (whole, refl) fails).0
+    not_by other.version e n k l other.runs (complete_of parts other m n k (one_record text parts other m n p q) whole) fails
 
 one_end : (text : List ℕ) (parts other : Parts) (m n k l : MachineState) → OpensRecord text parts m → OpensRecord text other n
-    → IsComplete m parts.runs k → IsComplete n other.runs l → (parts ≡ other) × (k ≡ l)
-one_end text parts other m n k l p q first second = (
-  (one_record text parts other m n p q).0,
-  (one_replay text parts other m n k l (Ok (ending_of k)) (Ok (ending_of l)) p q (first, refl) (second, refl)).1,
-)
+    → IsComplete (leads_by parts.version) m parts.runs k → IsComplete (leads_by other.version) n other.runs l → (parts ≡ other) × (k ≡ l)
+one_end text parts other m n k l p q first second =
+    let same = one_record text parts other m n p q in
+    (same.0, end_by other.version n k l other.runs (complete_of parts other m n k same first) second)
 
 -- a report differs from the machine's in one line, or not at all
 
@@ -96,7 +117,7 @@ not_other parts other m n i same machine some first (inr is) =
 
 -- the report of a replay is told or refused, and not both
 told_or_not : (text : List ℕ) (parts other : Parts) (m n k l : MachineState) (i : ℕ) → OpensRecord text parts m → OpensRecord text other n
-    → IsComplete m parts.runs k → IsComplete n other.runs l → IsUnlike parts (report_text k) (Some i) → IsUnlike other (report_text l) None → ⊥
+    → IsComplete (leads_by parts.version) m parts.runs k → IsComplete (leads_by other.version) n other.runs l → IsUnlike parts (report_text k) (Some i) → IsUnlike other (report_text l) None → ⊥
 told_or_not text parts other m n k l i p q first second unlike follows =
     let one = one_end text parts other m n k l p q first second in not_other parts other k l i one.0 one.1 unlike.0 unlike.1 follows
 
@@ -168,10 +189,37 @@ record_fails_is (record_fault.Line line) due fails none = fails
 record_fails_is (record_fault.Number line) due fails none = fails
 record_fails_is record_fault.Memory due fails none = absurd (none refl)
 
+-- the single steps of a journal of whole transfers are taken
+
+widened_ends : (m : MachineState) (runs wide : List Run) (w : IsWidened m runs (steps_of wide)) → Replays (Ok (ending_of w.left)) m wide w.left
+widened_ends m runs wide w = (record { after = widens_after w.widens; final = w.final }, refl)
+
+-- whatever else a replay of them is said to come to, it is this
+abbrev pub Alone : Result Ending ReplayFault → MachineState → List Run → MachineState → Type 0
+Alone result m wide n = (answer : Result Ending ReplayFault) (k : MachineState) → Replays answer m wide k → (answer ≡ result) × (k ≡ n)
+
+pub widened_taken : (m n : MachineState) (runs wide : List Run) (ending : Ending) → IsWidened m runs (steps_of wide) → Alone (Ok ending) m wide n
+    → IsComplete AfterWhole m runs n × (ending ≡ ending_of n)
+widened_taken m n runs wide ending w alone =
+    let one = alone (Ok (ending_of w.left)) w.left (widened_ends m runs wide w) in
+    let same : ending ≡ ending_of w.left = cc in (
+      subst (λ (x : MachineState). IsComplete AfterWhole m runs x) one.1 (record { after = (steps_of wide, w.widens); final = w.final }),
+      same ∙ ap ending_of one.1,
+    )
+
+pub widened_not : (m n : MachineState) (runs wide : List Run) (fault : ReplayFault) → IsWidened m runs (steps_of wide) → Alone (Err fault) m wide n → ⊥
+widened_not m n runs wide fault w alone =
+    let one = (alone (Ok (ending_of w.left)) w.left (widened_ends m runs wide w)).0 in absurd (cc)
+
+-- a fault that is told of them refuses the record
+pub not_replayed : (text : List ℕ) (parts : Parts) (m : MachineState) (fault : ReplayFault) → OpensRecord text parts m → FailsBy (leads_by parts.version) (Replay fault) m parts.runs
+    → RecordAnswer text (Refused (Schedule fault))
+not_replayed text parts m fault opens fails = not_taken parts m fails.0 fault opens fails.1
+
 -- what a run prints is replayed
 
 abbrev printed_parts : List ℕ → List ℕ → List Actor → Parts
-printed_parts job rest s = record { job = job; runs = merged s; rest = rest; rest_line = 1 + line_feeds (record_text job s) }
+printed_parts job rest s = record { version = Second; job = job; runs = merged s; rest = rest; rest_line = 1 + line_feeds (record_text job s) }
 
 opened : (plan : Plan) (codes : List (List ℕ)) (s : List Actor) (m : MachineState) → After (opening_machine plan codes) s m
     → After (machine_of (memory_of plan) plan.limit codes plan.starts) s m
@@ -191,7 +239,7 @@ opens_printed job rest s m can =
     }
 
 complete_printed : (job rest : List ℕ) (s : List Actor) (m : MachineState) (can : CanRun job s m)
-    → IsComplete can.opening (printed_parts job rest s).runs m
+    → IsComplete After can.opening (printed_parts job rest s).runs m
 complete_printed job rest s m can = record {
   after = subst (λ (t : List Actor). After can.opening t m) (sym (merged_spells s)) can.permitted;
   final = can.complete;

@@ -1,12 +1,17 @@
 -- The answer of `replay`. This project's own.
 use Rattle.std.specs.Prelude.{◌≡◌, ◌≢◌, ◌⊎◌, ℕ, ◌+◌, ◌==◌, List, [], ◌∷◌, Option, Some, None, Ok, Err, if◌then◌else◌}
+use Rattle.qpu_machine.specs.declared.actor.Actor.{Actor}
 use Rattle.qpu_machine.specs.Machine.{MachineState}
+use Rattle.qpu_machine.specs.Schedule.{After}
 use Rattle.qpu_record.specs.declared.fault.RecordFault.{RecordFault}
 use Rattle.qpu_record.specs.declared.fault.RecordFault.TheVariants as record_fault
+use Rattle.qpu_record.specs.declared.parts.Version.{Version}
+use Rattle.qpu_record.specs.declared.parts.Version.TheVariants.{First, Second}
 use Rattle.qpu_record.specs.Reading.{Parts, record_of}
 use Rattle.qpu_report.specs.Report.{report_text}
 use Rattle.qpu_replay.specs.declared.fault.ReplayFault.{ReplayFault}
 use Rattle.qpu_replay.specs.Replay.{IsComplete, IsFault}
+use Rattle.qpu_replay.specs.Widened.{AfterWhole}
 use Rattle.qpu_tool.specs.declared.answer.Answer.{Answer}
 use Rattle.qpu_tool.specs.declared.answer.Answer.TheVariants as answer
 use Rattle.qpu_tool.specs.declared.refusal.Refusal.{Refusal}
@@ -31,20 +36,26 @@ IsUnlike parts report (Some line) = (parts.rest ≢ []) × (differing_line parts
 
 -- the answer
 
+-- how the steps of a record lead from one machine to another: where it is of version 1, each step of
+-- a load or store stands for the moves of all rows that its transfer has left
+abbrev pub leads_by : Version → MachineState → List Actor → MachineState → Type 0
+leads_by First = AfterWhole
+leads_by Second = After
+
 -- a text is a record with these parts, and the machine is that of its job before any step
 pub record OpensRecord (text : List ℕ) (parts : Parts) (m : MachineState) : Type 0 where
   pub is_record : record_of text ≡ Ok parts
   pub opens : OpensJob parts.job m
 
 -- the answer to a text of ASCII, in the order in which refusals are tried: its lines; its job; the first
--- step that isn't enabled, or that something can still move; a report behind it that isn't the
--- machine's; or the machine's report
+-- step that isn't enabled, by the items and steps of the record itself, or that something can still
+-- move; a report behind it that isn't the machine's; or the machine's report
 pub data RecordAnswer (text : List ℕ) : Answer → Type 0 where
   no_record : (e : RecordFault) → record_of text ≡ Err e → e ≢ record_fault.Memory → RecordAnswer text (answer.Refused (Record e))
   no_start : (parts : Parts) (why : Refusal) → record_of text ≡ Ok parts → JobRefusal parts.job why → RecordAnswer text (answer.Refused why)
-  not_taken : (parts : Parts) (m n : MachineState) (e : ReplayFault) → OpensRecord text parts m → IsFault e m parts.runs n
+  not_taken : (parts : Parts) (m n : MachineState) (e : ReplayFault) → OpensRecord text parts m → IsFault (leads_by parts.version) e m parts.runs n
       → RecordAnswer text (answer.Refused (Schedule e))
-  other_report : (parts : Parts) (m n : MachineState) (line : ℕ) → OpensRecord text parts m → IsComplete m parts.runs n
+  other_report : (parts : Parts) (m n : MachineState) (line : ℕ) → OpensRecord text parts m → IsComplete (leads_by parts.version) m parts.runs n
       → IsUnlike parts (report_text n) (Some line) → RecordAnswer text (answer.Refused (Report line))
-  replayed : (parts : Parts) (m n : MachineState) → OpensRecord text parts m → IsComplete m parts.runs n
+  replayed : (parts : Parts) (m n : MachineState) → OpensRecord text parts m → IsComplete (leads_by parts.version) m parts.runs n
       → IsUnlike parts (report_text n) None → RecordAnswer text (answer.Report n)

@@ -1,13 +1,15 @@
 //! The answer to the text of a record.
-ghost use Rattle.std.specs.Prelude.{◌≡◌, ◌≢◌, ◌≤◌, ◌⊎◌, [], Some, Ok, IfOk, IfSome, IsNone, length, string_bytes};
+ghost use Rattle.std.specs.Prelude.{◌≡◌, ◌≢◌, ◌≤◌, ◌⊎◌, [], Some, Ok, IfErr, IfOk, IfSome, IsNone, List, length, string_bytes, ℕ};
 ghost use Rattle.qpu_machine.specs.Machine.{MachineState};
-ghost use Rattle.qpu_machine.specs.Ending.{IsFinal};
-ghost use Rattle.qpu_record.specs.Reading.{parts_of, record_of};
+ghost use Rattle.qpu_machine.specs.Ending.{IsFinal, ending_of};
+ghost use Rattle.qpu_record.specs.Reading.{Parts, parts_of, record_of};
+ghost use Rattle.qpu_machine.specs.Schedule.{After};
 ghost use Rattle.qpu_replay.specs.Replay.{IsComplete};
+ghost use Rattle.qpu_replay.specs.Widened.{AfterWhole, FailsBy};
 ghost use Rattle.qpu_report.specs.Report.{report_text};
 ghost use Rattle.qpu_tool.specs.declared.command.TheConstants.{MOST_RECORD};
 ghost use Rattle.qpu_tool.specs.Opening.{OpensJob};
-ghost use Rattle.qpu_tool.specs.Replaying.{RecordAnswer, OpensRecord, differing_line, IsUnlike};
+ghost use Rattle.qpu_tool.specs.Replaying.{RecordAnswer, OpensRecord, differing_line, IsUnlike, leads_by};
 
 use crate::answer::Answer;
 use crate::comparing::differing_line;
@@ -16,9 +18,9 @@ use crate::holding::HoldingSink;
 use crate::opening::opened;
 use crate::refusal::Refusal;
 use crate::refusing::misrecorded;
-use qpu_machine::Machine;
-use qpu_record::{RecordParts, read_record};
-use qpu_replay::replay;
+use qpu_machine::{Ending, Journal, Machine};
+use qpu_record::{RecordParts, Version, read_record};
+use qpu_replay::{WidenFault, replay, widen};
 use qpu_word::NoMemory;
 use std::alloc::Global;
 
@@ -53,7 +55,7 @@ fn reported(
     parts: &RecordParts,
     end: EndedMachine,
 ) -> Result<Answer<'static>, NoMemory>
-    requires { (m : MachineState) × OpensRecord text.now (parts_of parts.now) m × IsComplete m (parts_of parts.now).runs end }
+    requires { (m : MachineState) × OpensRecord text.now (parts_of parts.now) m × IsComplete (leads_by (parts_of parts.now).version) m (parts_of parts.now).runs end }
     ensures { IfOk result (RecordAnswer text.now) }
 {
     match unlike(alloc, parts, &end)? {
@@ -62,7 +64,59 @@ fn reported(
     }
 }
 
+/// Lets a machine take the steps of a journal.
+fn take_steps(machine: &mut Machine, journal: &Journal) -> Result<Ending, WidenFault>
+    ensures ok { IfOk result (λ ending. IsComplete After machine.old.state journal.now machine.new.state × (ending ≡ ending_of machine.new.state)) }
+    ensures err { IfErr result (λ fault. FailsBy After fault machine.old.state journal.now) }
+{
+    match replay(machine, journal) {
+        Ok(ending) => Ok(ending),
+        Err(fault) => Err(WidenFault::Replay(fault)),
+    }
+}
+
+/// Lets a machine take the steps that those of a journal of whole transfers stand for.
+fn take_whole_steps(
+    alloc: Global,
+    machine: &mut Machine,
+    journal: &Journal,
+) -> Result<Ending, WidenFault>
+    ensures ok { IfOk result (λ ending. IsComplete AfterWhole machine.old.state journal.now machine.new.state × (ending ≡ ending_of machine.new.state)) }
+    ensures err { IfErr result (λ fault. FailsBy AfterWhole fault machine.old.state journal.now) }
+{
+    let wide = widen(alloc, machine, journal)?;
+    match replay(machine, &wide) {
+        Ok(ending) => Ok(ending),
+        Err(_) => unreachable!(),
+    }
+}
+
 /// Lets a machine take the steps of a record.
+fn take_record(
+    alloc: Global,
+    machine: &mut Machine,
+    parts: &RecordParts,
+) -> Result<Ending, WidenFault>
+    ensures ok { IfOk result (λ ending. IsComplete (leads_by parts.now.version) machine.old.state parts.now.journal machine.new.state × (ending ≡ ending_of machine.new.state)) }
+    ensures err { IfErr result (λ fault. FailsBy (leads_by parts.now.version) fault machine.old.state parts.now.journal) }
+{
+    match parts.version {
+        Version::First => take_whole_steps(alloc, machine, &parts.journal),
+        Version::Second => take_steps(machine, &parts.journal),
+    }
+}
+
+/// The answer to a record whose steps aren't a complete permitted schedule.
+fn not_taken(fault: WidenFault) -> Result<Answer<'static>, NoMemory>
+    ensures { (text : List ℕ) (parts : Parts) (m : MachineState) → OpensRecord text parts m → FailsBy (leads_by parts.version) fault m parts.runs → IfOk result (RecordAnswer text) }
+{
+    match fault {
+        WidenFault::Replay(fault) => Ok(Answer::Refused(Refusal::Schedule(fault))),
+        WidenFault::Memory => Err(NoMemory),
+    }
+}
+
+/// Lets the machine of a record take its steps.
 fn replay_on(
     alloc: Global,
     text: &str,
@@ -73,9 +127,9 @@ fn replay_on(
     ensures { IfOk result (RecordAnswer text.now) }
 {
     let mut machine = machine;
-    match replay(&mut machine, &parts.journal) {
+    match take_record(alloc, &mut machine, parts) {
         Ok(ending) => reported(alloc, text, parts, EndedMachine::new(machine, ending)),
-        Err(fault) => Ok(Answer::Refused(Refusal::Schedule(fault))),
+        Err(fault) => not_taken(fault),
     }
 }
 

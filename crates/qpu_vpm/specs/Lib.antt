@@ -1,4 +1,3 @@
 pub mod Cells
-pub mod Fields
-pub mod Grid
 pub mod Values
+pub mod Strands

@@ -1,12 +1,14 @@
--- Words of the VPM read and written by lists of cells. This project's own.
-use Rattle.std.specs.Prelude.{ℕ, List, [], ◌∷◌, map, slice_index, slice_set}
+-- Elements of the VPM read and written by lists of byte places. This project's own.
+use Rattle.std.specs.Prelude.{ℕ, List, [], ◌∷◌, map}
+use Rattle.qpu_bytes.specs.declared.size.Size.{Size}
+use Rattle.qpu_bytes.specs.Elements.{part, with_part}
 
--- the values of cells of the VPM
-abbrev pub vpm_values : List ℕ → List ℕ → List ℕ
-vpm_values vpm cells = map (slice_index vpm) cells
+-- the elements at places of the VPM, extended with zeros
+abbrev pub vpm_values : List ℕ → Size → List ℕ → List ℕ
+vpm_values vpm size places = map (λ at. part vpm at size) places
 
--- cells of the VPM set to values, one after another
-abbrev pub with_cells : List ℕ → List ℕ → List ℕ → List ℕ
-with_cells vpm [] values = vpm
-with_cells vpm (c ∷ cells) [] = vpm
-with_cells vpm (c ∷ cells) (v ∷ values) = with_cells (slice_set vpm c v) cells values
+-- the elements at places of the VPM set to the low bytes of values, one after another
+abbrev pub with_values : List ℕ → Size → List ℕ → List ℕ → List ℕ
+with_values vpm size [] values = vpm
+with_values vpm size (at ∷ places) [] = vpm
+with_values vpm size (at ∷ places) (v ∷ values) = with_values (with_part vpm at size v) size places values

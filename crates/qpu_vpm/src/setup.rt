@@ -1,32 +1,33 @@
 ghost use Rattle.std.specs.Prelude.{◌≡◌, ◌+◌, ◌*◌, ◌%◌, ◌<◌, ℕ, if◌then◌else◌};
 ghost use Rattle.qpu_word.specs.Words.{field};
 ghost use Rattle.qpu_word.specs.Setups.{counted};
-ghost use Rattle.qpu_vpm.specs.Cells.{cell, lane_cell, vector_cells};
-ghost use Rattle.qpu_vpm.specs.Fields.{setup_of, setup_place, setup_cells};
+ghost use Rattle.qpu_word.specs.declared.code.TheConstants.{VPM_ROWS};
+ghost use Rattle.qpu_bytes.specs.Elements.{in_word};
+ghost use Rattle.qpu_vpm.specs.Cells.{setup_of, size_of_code, access_place, lane_place};
+ghost use Rattle.qpu_vpm.specs.Strands.{strand_place};
 
-use qpu_word::code::{VPM_COLUMNS, VPM_ROWS};
+use crate::strand::Strand;
+use qpu_bytes::Size;
+use qpu_word::LANES;
+use qpu_word::code::{VPM_COLUMNS, VPM_ROW_BYTES, VPM_ROWS, WORD_BYTES};
 
-/// A setup of VPM vectors taken apart, for elements of 32 bits (Guide, "VPM and VCD Register
-/// Summary").
+/// A setup of VPM vectors taken apart (Guide, "VPM and VCD Register Summary").
 #[derive(Clone, Copy, Debug, PartialEq, Eq)]
 pub struct VectorSetup {
-    /// Whether a vector is a row, and not a column of sixteen rows.
+    /// Whether a vector lies in a row, and not in a column of sixteen rows.
     pub horizontal: bool,
+    /// Whether each lane has a word of its own, and not as many lanes a word as it has elements.
+    /// Without effect for elements of 32 bits.
+    pub laned: bool,
+    /// The size of an element.
+    pub size: Size,
     /// The step from the place of an access to that of the next, 1 to 64.
     pub stride: u32,
-    /// The place of the first access, below 256; places are taken modulo 64.
+    /// The place of the first access, below 256. Places are taken modulo 64 times the elements of a
+    /// word: e places are in a row, for e elements in a word.
     pub at: u32,
     /// How many vectors a read setup gives, 1 to 16.
     pub count: u32,
-}
-
-/// A cell of the VPM.
-#[derive(Clone, Copy)]
-pub(crate) struct Spot {
-    /// The row, below 64.
-    pub(crate) row: u32,
-    /// The column, below 16.
-    pub(crate) column: u32,
 }
 
 /// The number that stands for 0 in the field of a stride.
@@ -51,15 +52,26 @@ fn counted(n: u32, full: u32) -> u32
     if n == 0 { full } else { n }
 }
 
+/// The size of a size code: 0, 1 and 2 are 8, 16 and 32 bits.
+fn size_of_code(code: u32) -> Size
+    ensures { result ≡ size_of_code code }
+{
+    match code {
+        0 => Size::Byte,
+        1 => Size::Half,
+        _ => Size::Word,
+    }
+}
+
 impl VectorSetup {
     /// The fields of a value of a setup register. Bits that no field has are without effect.
-    #[tactic(auto, unfolding(crate::specs::Fields::setup_cells, crate::specs::Cells::vector_cells))]
     pub fn of(value: u32) -> VectorSetup
-        ensures fields { result ≡ setup_of value }
-        ensures cells { (k : ℕ) → setup_cells result k ≡ vector_cells value k }
+        ensures { result ≡ setup_of value }
     {
         VectorSetup {
             horizontal: bits(value, 11, 1) == 1,
+            laned: bits(value, 10, 1) == 1,
+            size: size_of_code(bits(value, 8, 2)),
             stride: counted(bits(value, 12, 6), STRIDE_MOST),
             at: bits(value, 0, 8),
             count: counted(bits(value, 20, 4), COUNT_MOST),
@@ -67,31 +79,45 @@ impl VectorSetup {
     }
 
     /// The place of the k-th access, from 0.
-    pub(crate) fn place(self, k: u32) -> u32
-        ensures place { result ≡ setup_place self k }
-        ensures below { result < VPM_ROWS }
+    fn access(self, k: u32) -> u32
+        ensures place { result ≡ access_place self k }
+        ensures below { result < VPM_ROWS * in_word self.size }
     {
         let sum = u64::from(self.at) + u64::from(k) * u64::from(self.stride);
-        (sum % u64::from(VPM_ROWS)) as u32
+        (sum % u64::from(VPM_ROWS * self.size.in_word())) as u32
     }
 
-    /// The cell of a lane, below 16, of a vector at a place, below 64.
-    pub(crate) fn spot(self, place: u32, lane: u32) -> Spot
-        requires place { place < VPM_ROWS }
-        requires lane { lane < 16 }
-        ensures cell { cell result.row result.column ≡ lane_cell self.horizontal place lane }
-        ensures row { result.row < VPM_ROWS }
-        ensures column { result.column < VPM_COLUMNS }
+    /// Where the lanes of the k-th access lie, from 0 (Guide, "VPM Vertical Access" and "VPM
+    /// Horizontal Access").
+    pub(crate) fn strand(self, k: u32) -> Strand
+        ensures { (i : ℕ) → i < 16 → strand_place result i ≡ lane_place self (access_place self k) i }
     {
-        if self.horizontal {
-            return Spot {
-                row: place,
-                column: lane,
-            };
-        }
-        Spot {
-            row: VPM_COLUMNS * (place / VPM_COLUMNS) + lane,
-            column: place % VPM_COLUMNS,
+        let place = self.access(k);
+        let line = place / self.size.in_word();
+        let part = place % self.size.in_word();
+        let step = if self.horizontal {
+            WORD_BYTES
+        } else {
+            VPM_ROW_BYTES
+        };
+        let first = if self.horizontal {
+            VPM_ROW_BYTES * line
+        } else {
+            VPM_COLUMNS * VPM_ROW_BYTES * (line / VPM_COLUMNS) + WORD_BYTES * (line % VPM_COLUMNS)
+        };
+        if self.laned {
+            Strand {
+                start: first + self.size.bytes() * part,
+                step,
+                filled: Size::Word,
+            }
+        } else {
+            let words = LANES as u32 / self.size.in_word();
+            Strand {
+                start: first + words * step * part,
+                step,
+                filled: self.size,
+            }
         }
     }
 }

@@ -5,16 +5,16 @@ use Rattle.qpu_word.specs.declared.setup.Book.{Book}
 use Rattle.qpu_word.specs.declared.setup.Vectors.{Vectors}
 use Rattle.qpu_word.specs.declared.setup.ReadSetup.TheVariants.{Vectors as VpmRead, Load}
 use Rattle.qpu_word.specs.declared.setup.WriteSetup.TheVariants.{Vectors as VpmWrite, Store}
-use Rattle.qpu_word.specs.declared.code.TheConstants.{VPM_ROWS}
+use Rattle.qpu_word.specs.declared.code.TheConstants.{VPM_PLACES}
 use Rattle.qpu_word.specs.Setups.{read_setup, write_setup, vector_count}
 
 -- a read setup of which some vectors are left
 abbrev pub IsReading : Vectors → Type 0
 IsReading v = (read_setup v.setup ≡ Ok VpmRead) × (v.done < vector_count v.setup)
 
--- a write setup, whose vectors are counted modulo the rows of the VPM
+-- a write setup, whose vectors are counted modulo the places of the smallest elements
 abbrev pub IsWriting : Vectors → Type 0
-IsWriting v = (write_setup v.setup ≡ Ok VpmWrite) × (v.done < VPM_ROWS)
+IsWriting v = (write_setup v.setup ≡ Ok VpmWrite) × (v.done < VPM_PLACES)
 
 -- a second read setup waits only behind a first one
 pub record IsSoundBook (book : Book) : Type 0 where

@@ -11,27 +11,32 @@ use Rattle.qpu_word.specs.declared.fault.SetupFault.{SetupFault}
 use Rattle.qpu_word.specs.declared.fault.SetupFault.TheVariants.{Size, Kind, Width, Block}
 use Rattle.qpu_word.specs.declared.fault.FaultKind.{FaultKind}
 use Rattle.qpu_word.specs.declared.fault.FaultKind.TheVariants.{NoSetup, SetupsFull, Setup}
+use Rattle.qpu_word.specs.declared.code.TheConstants.{VPM_PLACES}
 use Rattle.qpu_word.specs.Words.{field}
 
--- the size of a vector setup for elements of 32 bits
-abbrev pub size_of_words : ℕ
-size_of_words = 2
+-- the size code of a vector setup that no elements have: 0, 1 and 2 are 8, 16 and 32 bits
+abbrev pub no_size : ℕ
+no_size = 3
+
+-- the width code of a store that no elements have: 0 is 32 bits, 2 and 3 are 16 bits, 4 to 7 are 8
+-- bits
+abbrev pub no_width : ℕ
+no_width = 1
 
 -- what a value of the read setup register (file A address 49) is, or why it is refused
 unfoldable pub read_setup : ℕ → Result ReadSetup SetupFault
 read_setup value =
-    if field value 30 2 == 0 then (if field value 8 2 == size_of_words then Ok VpmRead else Err Size)
+    if field value 30 2 == 0 then (if field value 8 2 == no_size then Err Size else Ok VpmRead)
     else if field value 30 2 == 1 then Err Kind
     else if field value 28 4 == 9 then Ok Pitch
-    else if field value 28 3 == 0 then Ok Load
-    else Err Width
+    else Ok Load
 
 -- what a value of the write setup register (file B address 49) is, or why it is refused
 unfoldable pub write_setup : ℕ → Result WriteSetup SetupFault
 write_setup value =
-    if field value 30 2 == 0 then (if field value 8 2 == size_of_words then Ok VpmWrite else Err Size)
+    if field value 30 2 == 0 then (if field value 8 2 == no_size then Err Size else Ok VpmWrite)
     else if field value 30 2 == 1 then Err Kind
-    else if field value 30 2 == 2 then (if field value 0 3 == 0 then Ok Store else Err Width)
+    else if field value 30 2 == 2 then (if field value 0 3 == no_width then Err Width else Ok Store)
     else if field value 16 1 == 0 then Ok Stride
     else Err Block
 
@@ -86,10 +91,11 @@ with_vector_read (Some v) book =
 unfoldable pub take_vector : Book → Result Book FaultKind
 take_vector book = with_vector_read book.first book
 
--- the book after a vector of the write setup, whose count goes on without end
+-- the book after a vector of the write setup, whose count goes on without end: its places repeat
+-- after 256 accesses at most
 abbrev pub with_vector_written : Option Vectors → Book → Result Book FaultKind
 with_vector_written None book = Err NoSetup
-with_vector_written (Some v) book = Ok (record book { writes = Some (record v { done = (v.done + 1) % 64 }) })
+with_vector_written (Some v) book = Ok (record book { writes = Some (record v { done = (v.done + 1) % VPM_PLACES }) })
 
 -- the book after a VPM write
 unfoldable pub put_vector : Book → Result Book FaultKind

@@ -4,7 +4,7 @@ ghost use Rattle.qpu_word.specs.Setups.{put_read, put_write, take_vector, put_ve
 ghost use Rattle.qpu_word.specs.Books.{IsSoundBook};
 ghost use Rattle.qpu_word.specs.Instruction.{after_read_setup, after_write_setup, after_setups, after_uniform_to};
 
-use crate::code::VPM_ROWS;
+use crate::code::VPM_PLACES;
 use crate::fault::FaultKind;
 use crate::setup::{
     Book, ReadSetup, Vectors, WriteSetup, bits, read_setup, vector_count, write_setup,
@@ -103,7 +103,7 @@ impl Book {
         Ok(vectors)
     }
 
-    /// Takes the next access of the write setup, whose vectors are counted modulo 64; the setup
+    /// Takes the next access of the write setup, whose vectors are counted modulo 256; the setup
     /// comes with the count before it. `NoSetup` exactly where no write setup was given, and then
     /// nothing changes.
     #[tactic(auto, unfolding(crate::specs::Setups::put_vector))]
@@ -116,7 +116,7 @@ impl Book {
             return Err(FaultKind::NoSetup);
         };
         self.writes = Some(Vectors {
-            done: (vectors.done + 1) % VPM_ROWS,
+            done: (vectors.done + 1) % VPM_PLACES,
             ..vectors
         });
         Ok(vectors)

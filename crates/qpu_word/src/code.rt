@@ -104,6 +104,17 @@ pub const VPM_ROWS: u32 = 64;
 
 pub const VPM_COLUMNS: u32 = 16;
 
+/// Places of vectors of 8 bits in the VPM: four in each row.
+pub const VPM_PLACES: u32 = 256;
+
+/// Bytes of the VPM, and of one of its rows.
+pub const VPM_BYTES: u32 = 4096;
+
+pub const VPM_ROW_BYTES: u32 = 64;
+
+/// Words of the largest memory.
+pub const MEMORY_WORDS: u32 = 1_048_576;
+
 /// Processors of the machine, and its semaphores with the highest count of one.
 pub const PROCESSORS: u32 = 12;
 

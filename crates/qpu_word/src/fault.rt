@@ -29,11 +29,11 @@ pub enum WordFault {
 /// Why a value written to a setup register is refused.
 #[derive(Clone, Copy, Debug, PartialEq, Eq)]
 pub enum SetupFault {
-    /// A vector setup whose elements aren't 32 bits wide.
+    /// A vector setup whose elements aren't 8, 16 or 32 bits wide.
     Size,
     /// A setup of no kind.
     Kind,
-    /// A transfer whose elements aren't 32 bits wide.
+    /// A store whose width is the reserved one.
     Width,
     /// A store stride in block mode.
     Block,

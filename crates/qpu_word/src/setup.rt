@@ -10,7 +10,7 @@ use crate::fault::SetupFault;
 pub struct Vectors {
     /// The value that was written to the setup register.
     pub setup: u32,
-    /// Vectors done: below their number for a read setup, modulo 64 for a write setup.
+    /// Vectors done: below their number for a read setup, modulo 256 for a write setup.
     pub done: u32,
 }
 
@@ -57,8 +57,11 @@ pub enum WriteSetup {
     Stride,
 }
 
-/// The size code of elements of 32 bits.
-const SIZE_OF_WORDS: u32 = 2;
+/// The size code of a vector setup that no elements have.
+const NO_SIZE: u32 = 3;
+
+/// The width code of a store that no elements have.
+const NO_WIDTH: u32 = 1;
 
 /// The top four bits of an extended pitch.
 const PITCH: u32 = 9;
@@ -73,25 +76,24 @@ pub(crate) fn bits(value: u32, low: u32, count: u32) -> u32
 }
 
 /// What a value of the read setup register, file A address 49, gives (Guide, "VPM and VCD Register
-/// Summary"). The faults are Size, Kind and Width.
+/// Summary"). The faults are Size and Kind: a load has no width that is refused, since 9 in the top
+/// four bits is the extended pitch.
 #[tactic(auto, unfolding(crate::specs::Setups::read_setup))]
 pub fn read_setup(value: u32) -> Result<ReadSetup, SetupFault>
     ensures { result ≡ read_setup value }
 {
     if bits(value, 30, 2) == 0 {
-        if bits(value, 8, 2) == SIZE_OF_WORDS {
-            Ok(ReadSetup::Vectors)
-        } else {
+        if bits(value, 8, 2) == NO_SIZE {
             Err(SetupFault::Size)
+        } else {
+            Ok(ReadSetup::Vectors)
         }
     } else if bits(value, 30, 2) == 1 {
         Err(SetupFault::Kind)
     } else if bits(value, 28, 4) == PITCH {
         Ok(ReadSetup::Pitch)
-    } else if bits(value, 28, 3) == 0 {
-        Ok(ReadSetup::Load)
     } else {
-        Err(SetupFault::Width)
+        Ok(ReadSetup::Load)
     }
 }
 
@@ -102,18 +104,18 @@ pub fn write_setup(value: u32) -> Result<WriteSetup, SetupFault>
     ensures { result ≡ write_setup value }
 {
     if bits(value, 30, 2) == 0 {
-        if bits(value, 8, 2) == SIZE_OF_WORDS {
-            Ok(WriteSetup::Vectors)
-        } else {
+        if bits(value, 8, 2) == NO_SIZE {
             Err(SetupFault::Size)
+        } else {
+            Ok(WriteSetup::Vectors)
         }
     } else if bits(value, 30, 2) == 1 {
         Err(SetupFault::Kind)
     } else if bits(value, 30, 2) == 2 {
-        if bits(value, 0, 3) == 0 {
-            Ok(WriteSetup::Store)
-        } else {
+        if bits(value, 0, 3) == NO_WIDTH {
             Err(SetupFault::Width)
+        } else {
+            Ok(WriteSetup::Store)
         }
     } else if bits(value, 16, 1) == 0 {
         Ok(WriteSetup::Stride)

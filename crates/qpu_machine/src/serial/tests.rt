@@ -212,6 +212,7 @@ static CASES: [Case; 11] = [
             (Actor::Exec(0), 2),
             (Actor::Store(0), 1),
             (Actor::Exec(0), 3),
+            (Actor::Store(0), 63),
         ],
         ending: Ending::Done,
         halt: Halt::Ended,

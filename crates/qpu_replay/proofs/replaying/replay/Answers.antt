@@ -16,7 +16,7 @@ pub returns-in_err-take_all-clause-alone : goal.returns-in_err-take_all-clause-a
 returns-in_err-take_all-clause-alone c =
     let p = err_from_is_err_and c.from_residual.result c.from_residual.ensures.1 in
     let fault = c.in_err-take_all.field-0.0 in
-    let says = subst (λ (runs : List Run). IsFault fault c.args.machine.now.state runs c.take_all.new.machine.state) c.runs.ensures.runs c.in_err-take_all.ensures.err in
+    let says = subst (λ (runs : List Run). IsFault After fault c.args.machine.now.state runs c.take_all.new.machine.state) c.runs.ensures.runs c.in_err-take_all.ensures.err in
     rw (p.1, p.2) (λ answer m other. one_answer answer (Err fault) c.args.machine.now.state m c.take_all.new.machine.state c.args.journal.now other says)
 
 pub returns-in-Some-clause-alone : goal.returns-in-Some-clause-alone
@@ -48,14 +48,14 @@ pub returns-in_err-take_all-clause-run : goal.returns-in_err-take_all-clause-run
 returns-in_err-take_all-clause-run c =
     let p = err_from_is_err_and c.from_residual.result c.from_residual.ensures.1 in
     let fault = c.in_err-take_all.field-0.0 in
-    let says = subst (λ (runs : List Run). IsFault fault c.args.machine.now.state runs c.take_all.new.machine.state) c.runs.ensures.runs c.in_err-take_all.ensures.err in
+    let says = subst (λ (runs : List Run). IsFault After fault c.args.machine.now.state runs c.take_all.new.machine.state) c.runs.ensures.runs c.in_err-take_all.ensures.err in
     rw (p.1, p.2) (run_of c.keeps.ensures (fault_taken fault c.args.machine.now.state c.take_all.new.machine.state c.args.journal.now says))
 
 pub returns-in_err-take_all-clause-opening : goal.returns-in_err-take_all-clause-opening
 returns-in_err-take_all-clause-opening c =
     let p = err_from_is_err_and c.from_residual.result c.from_residual.ensures.1 in
     let fault = c.in_err-take_all.field-0.0 in
-    let says = subst (λ (runs : List Run). IsFault fault c.args.machine.now.state runs c.take_all.new.machine.state) c.runs.ensures.runs c.in_err-take_all.ensures.err in
+    let says = subst (λ (runs : List Run). IsFault After fault c.args.machine.now.state runs c.take_all.new.machine.state) c.runs.ensures.runs c.in_err-take_all.ensures.err in
     rw (p.1, p.2) (run_from_opening (fault_taken fault c.args.machine.now.state c.take_all.new.machine.state c.args.journal.now says))
 
 pub returns-in-None-clause-alone : goal.returns-in-None-clause-alone

@@ -1,5 +1,0 @@
-use Rattle.qpu_dma.proofs.PlanLemmas.{movable_rows}
-use Rattle.qpu_dma.proofs.store.StorePlan.rows.Goals as goal
-
-pub returns-clause-most : goal.returns-clause-most
-returns-clause-most c = movable_rows _ c.self.invariant
