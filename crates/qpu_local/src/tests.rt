@@ -202,10 +202,9 @@ fn setups_are_refused(rt: HostRuntime) {
     let read = 0xe0020c6700000000;
     let write = 0xe0021c6700000000;
     for (word, fault) in [
-        (read + 0x00100800, SetupFault::Size),
+        (read + 0x00100b00, SetupFault::Size),
         (read + 0x40000000, SetupFault::Kind),
-        (read + 0xa0000000, SetupFault::Width),
-        (write + 0x00000000, SetupFault::Size),
+        (write + 0x00000300, SetupFault::Size),
         (write + 0x40000000, SetupFault::Kind),
         (write + 0x80000001, SetupFault::Width),
         (write + 0xc0010000, SetupFault::Block),
