@@ -96,6 +96,35 @@ def program(count):
     return "add r0, r1, r2\n" * (count - 3) + "nop; thrend\nnop\nnop\n"
 
 
+def ways(branches, before=(), slot="nop"):
+    """A program of so many register branches that each write a link, so each may go behind each of them."""
+    lines = list(before)
+    for _ in range(branches):
+        lines += ["bra ra2, 0; reg ra3", "nop", "nop", slot]
+    return "\n".join(lines + ["nop; thrend", "nop", "nop"]) + "\n"
+
+
+def rung(count, *lines):
+    """Lines that are executed or left out."""
+    return ["brr.anynz -, :over" + count, "nop", "nop", "nop", *lines, ":over" + count + " nop"]
+
+
+def ladder():
+    """Lines that leave each pair of look-up counts, r4 defined or not, and C defined or not."""
+    lines = ["or.setf -, r0, r0"]
+    lines += rung("c", "sub.setf -, r0, r1")
+    lines += rung("r", "mov t0s, r0", "nop", "nop; ldtmu0")
+    for unit in (0, 1):
+        for count in range(4):
+            lines += rung(f"{unit}{count}", f"mov t{unit}s, r0")
+    return lines
+
+
+def joined_ways(branches):
+    """The same behind a ladder, with third slots that write the uniforms address."""
+    return ways(branches, ladder(), "mov unif_addr, r0")
+
+
 def measure(words, text):
     """Status, seconds of processor time and kibibytes of one run."""
     with tempfile.NamedTemporaryFile("w", suffix=".txt", delete=False) as file:
@@ -148,6 +177,10 @@ def main():
         row("dis, a word in each line", ["dis"], words(count), count, "word")
     for count in (512, 1_024, 2_048, 4_096):
         row("check, a straight program", ["check"], program(count), count, "word")
+    for count in (125, 250, 500, 1_000):
+        row("check, register branches", ["check"], ways(count), count * count, "way")
+    for count in (125, 250, 500, 1_000):
+        row("check, the same behind a ladder", ["check"], joined_ways(count), count * count, "way")
 
 
 if __name__ == "__main__":

@@ -1,94 +1,80 @@
-//! The operations on four bytes of a number.
-ghost use Rattle.std.specs.Prelude.{◌≡◌, ℕ, ◌+◌, ◌-◌, ◌*◌, ◌/◌, ◌<◌, ◌≤◌, min, max};
+//! The operations on four bytes of a number, on all sixty-four bytes of sixteen numbers.
+ghost use Rattle.std.specs.Prelude.{◌≡◌, ℕ, ◌+◌, ◌-◌, ◌*◌, ◌/◌, ◌<◌, ◌≤◌, ◌^◌, min, max};
+ghost use Rattle.std.specs.Simd.Lanes.{zip2};
+ghost use Rattle.qpu_word.specs.Lanes.{lanes, lane};
 ghost use Rattle.qpu_word.specs.Operations.{byte, of_bytes};
 
-use qpu_word::{byte_of, number_of};
+use std::simd::prelude::*;
 
-/// The sum of two bytes, which stops at 255.
-fn sum(a: u32, b: u32) -> u32
-    requires a { a < 256 }
-    requires b { b < 256 }
-    ensures value { result ≡ min 255 (a + b) }
-    ensures below { result < 256 }
-{
-    (a + b).min(255)
+/// An operation on bytes, whose results are bytes.
+pub(crate) trait Bytewise {
+    ghost f: { ℕ → ℕ → ℕ };
+
+    fn all(a: u8x64, b: u8x64) -> u8x64
+        ensures values { result ≡ zip2 f a b }
+        ensures bytes { (x y : ℕ) → x < 2 ^ 8 → y < 2 ^ 8 → f x y < 2 ^ 8 };
 }
 
-/// Sums byte by byte, which stop at 255.
-pub fn sums(a: u32, b: u32) -> u32
-    ensures { result ≡ of_bytes (λ k. min 255 (byte a k + byte b k)) }
-{
-    number_of(
-        sum(byte_of(a, 0), byte_of(b, 0)),
-        sum(byte_of(a, 1), byte_of(b, 1)),
-        sum(byte_of(a, 2), byte_of(b, 2)),
-        sum(byte_of(a, 3), byte_of(b, 3)),
-    )
+/// Sums, which stop at 255.
+pub(crate) struct Sums;
+
+/// Differences, which stop at 0.
+pub(crate) struct Differences;
+
+/// Products as parts of 255, rounded.
+pub(crate) struct Products;
+
+/// The lesser ones, without sign.
+pub(crate) struct Minima;
+
+/// The greater ones, without sign.
+pub(crate) struct Maxima;
+
+impl Bytewise for Sums {
+    ghost f = { λ x y. min 255 (x + y) };
+
+    fn all(a: u8x64, b: u8x64) -> u8x64 {
+        let sums = a + b;
+        sums.simd_lt(a).select(u8x64::splat(255), sums)
+    }
 }
 
-/// The difference of two bytes, which stops at 0.
-fn difference(a: u32, b: u32) -> u32
-    requires { a < 256 }
-    ensures value { result ≡ a - b }
-    ensures below { result < 256 }
-{
-    a.saturating_sub(b)
+impl Bytewise for Differences {
+    ghost f = { λ x y. x - y };
+
+    fn all(a: u8x64, b: u8x64) -> u8x64 {
+        a.simd_lt(b).select(u8x64::splat(0), a - b)
+    }
 }
 
-/// Differences byte by byte, which stop at 0.
-pub fn differences(a: u32, b: u32) -> u32
-    ensures { result ≡ of_bytes (λ k. byte a k - byte b k) }
-{
-    number_of(
-        difference(byte_of(a, 0), byte_of(b, 0)),
-        difference(byte_of(a, 1), byte_of(b, 1)),
-        difference(byte_of(a, 2), byte_of(b, 2)),
-        difference(byte_of(a, 3), byte_of(b, 3)),
-    )
+impl Bytewise for Minima {
+    ghost f = { λ x y. min x y };
+
+    fn all(a: u8x64, b: u8x64) -> u8x64 {
+        a.simd_lt(b).select(a, b)
+    }
 }
 
-/// The product of two bytes as parts of 255, rounded.
-fn product(a: u32, b: u32) -> u32
-    requires a { a < 256 }
-    requires b { b < 256 }
-    ensures value { result ≡ (a * b + 127) / 255 }
-    ensures below { result < 256 }
-{
-    (a * b + 127) / 255
+impl Bytewise for Maxima {
+    ghost f = { λ x y. max x y };
+
+    fn all(a: u8x64, b: u8x64) -> u8x64 {
+        a.simd_lt(b).select(b, a)
+    }
 }
 
-/// Products byte by byte, as parts of 255, rounded.
-pub fn products(a: u32, b: u32) -> u32
-    ensures { result ≡ of_bytes (λ k. (byte a k * byte b k + 127) / 255) }
-{
-    number_of(
-        product(byte_of(a, 0), byte_of(b, 0)),
-        product(byte_of(a, 1), byte_of(b, 1)),
-        product(byte_of(a, 2), byte_of(b, 2)),
-        product(byte_of(a, 3), byte_of(b, 3)),
-    )
+impl Bytewise for Products {
+    ghost f = { λ x y. (x * y + 127) / 255 };
+
+    fn all(a: u8x64, b: u8x64) -> u8x64 {
+        let raised = a.cast::<u16>() * b.cast::<u16>() + u16x64::splat(128);
+        ((raised + (raised >> 8)) >> 8).cast::<u8>()
+    }
 }
 
-/// The lesser ones byte by byte, without sign.
-pub fn minima(a: u32, b: u32) -> u32
-    ensures { result ≡ of_bytes (λ k. min (byte a k) (byte b k)) }
+/// An operation on the bytes of each lane.
+pub(crate) fn on_bytes<O: Bytewise>(a: u32x16, b: u32x16) -> u32x16
+    ensures { result ≡ lanes (λ i. of_bytes (λ k. O.f (byte (lane a i) k) (byte (lane b i) k))) }
 {
-    number_of(
-        byte_of(a, 0).min(byte_of(b, 0)),
-        byte_of(a, 1).min(byte_of(b, 1)),
-        byte_of(a, 2).min(byte_of(b, 2)),
-        byte_of(a, 3).min(byte_of(b, 3)),
-    )
-}
-
-/// The greater ones byte by byte, without sign.
-pub fn maxima(a: u32, b: u32) -> u32
-    ensures { result ≡ of_bytes (λ k. max (byte a k) (byte b k)) }
-{
-    number_of(
-        byte_of(a, 0).max(byte_of(b, 0)),
-        byte_of(a, 1).max(byte_of(b, 1)),
-        byte_of(a, 2).max(byte_of(b, 2)),
-        byte_of(a, 3).max(byte_of(b, 3)),
-    )
+    u32x16::from_le_bytes(O::all(a.to_le_bytes(), b.to_le_bytes()))
 }

@@ -6,7 +6,9 @@
 
 mod add;
 mod bytes;
+mod each;
 mod mul;
+mod vectors;
 
 pub use add::add_unit;
 pub use mul::mul_unit;

@@ -222,3 +222,304 @@ fn mul_unit_gives_the_tables_results(rt: HostRuntime) {
         assert!(rt; mul_unit(op, &FIRST, &SECOND).v == results, "{op:?}");
     }
 }
+
+/// The ends of numbers with and without sign.
+const ENDS: [u32; 5] = [0x00000000, 0x00000001, 0x7fffffff, 0x80000000, 0xffffffff];
+
+/// The five ends in the first five lanes.
+const END_LANES: Lanes = Lanes {
+    v: [
+        0x00000000, 0x00000001, 0x7fffffff, 0x80000000, 0xffffffff, 0, 0, 0, 0, 0, 0, 0, 0, 0, 0, 0,
+    ],
+};
+
+/// The results in the first five lanes for each end as first operand and the five as second ones.
+type Ends = [[u32; 5]; 5];
+
+/// Expected values come from an independent program.
+#[test]
+fn numbers_at_their_ends(rt: HostRuntime) {
+    let table: [(AddOp, Ends); 8] = [
+        (
+            AddOp::Add,
+            [
+                [0x00000000, 0x00000001, 0x7fffffff, 0x80000000, 0xffffffff],
+                [0x00000001, 0x00000002, 0x80000000, 0x80000001, 0x00000000],
+                [0x7fffffff, 0x80000000, 0xfffffffe, 0xffffffff, 0x7ffffffe],
+                [0x80000000, 0x80000001, 0xffffffff, 0x00000000, 0x7fffffff],
+                [0xffffffff, 0x00000000, 0x7ffffffe, 0x7fffffff, 0xfffffffe],
+            ],
+        ),
+        (
+            AddOp::Sub,
+            [
+                [0x00000000, 0xffffffff, 0x80000001, 0x80000000, 0x00000001],
+                [0x00000001, 0x00000000, 0x80000002, 0x80000001, 0x00000002],
+                [0x7fffffff, 0x7ffffffe, 0x00000000, 0xffffffff, 0x80000000],
+                [0x80000000, 0x7fffffff, 0x00000001, 0x00000000, 0x80000001],
+                [0xffffffff, 0xfffffffe, 0x80000000, 0x7fffffff, 0x00000000],
+            ],
+        ),
+        (
+            AddOp::Shr,
+            [
+                [0x00000000, 0x00000000, 0x00000000, 0x00000000, 0x00000000],
+                [0x00000001, 0x00000000, 0x00000000, 0x00000001, 0x00000000],
+                [0x7fffffff, 0x3fffffff, 0x00000000, 0x7fffffff, 0x00000000],
+                [0x80000000, 0x40000000, 0x00000001, 0x80000000, 0x00000001],
+                [0xffffffff, 0x7fffffff, 0x00000001, 0xffffffff, 0x00000001],
+            ],
+        ),
+        (
+            AddOp::Asr,
+            [
+                [0x00000000, 0x00000000, 0x00000000, 0x00000000, 0x00000000],
+                [0x00000001, 0x00000000, 0x00000000, 0x00000001, 0x00000000],
+                [0x7fffffff, 0x3fffffff, 0x00000000, 0x7fffffff, 0x00000000],
+                [0x80000000, 0xc0000000, 0xffffffff, 0x80000000, 0xffffffff],
+                [0xffffffff, 0xffffffff, 0xffffffff, 0xffffffff, 0xffffffff],
+            ],
+        ),
+        (
+            AddOp::Ror,
+            [
+                [0x00000000, 0x00000000, 0x00000000, 0x00000000, 0x00000000],
+                [0x00000001, 0x80000000, 0x00000002, 0x00000001, 0x00000002],
+                [0x7fffffff, 0xbfffffff, 0xfffffffe, 0x7fffffff, 0xfffffffe],
+                [0x80000000, 0x40000000, 0x00000001, 0x80000000, 0x00000001],
+                [0xffffffff, 0xffffffff, 0xffffffff, 0xffffffff, 0xffffffff],
+            ],
+        ),
+        (
+            AddOp::Shl,
+            [
+                [0x00000000, 0x00000000, 0x00000000, 0x00000000, 0x00000000],
+                [0x00000001, 0x00000002, 0x80000000, 0x00000001, 0x80000000],
+                [0x7fffffff, 0xfffffffe, 0x80000000, 0x7fffffff, 0x80000000],
+                [0x80000000, 0x00000000, 0x00000000, 0x80000000, 0x00000000],
+                [0xffffffff, 0xfffffffe, 0x80000000, 0xffffffff, 0x80000000],
+            ],
+        ),
+        (
+            AddOp::Min,
+            [
+                [0x00000000, 0x00000000, 0x00000000, 0x80000000, 0xffffffff],
+                [0x00000000, 0x00000001, 0x00000001, 0x80000000, 0xffffffff],
+                [0x00000000, 0x00000001, 0x7fffffff, 0x80000000, 0xffffffff],
+                [0x80000000, 0x80000000, 0x80000000, 0x80000000, 0x80000000],
+                [0xffffffff, 0xffffffff, 0xffffffff, 0x80000000, 0xffffffff],
+            ],
+        ),
+        (
+            AddOp::Max,
+            [
+                [0x00000000, 0x00000001, 0x7fffffff, 0x00000000, 0x00000000],
+                [0x00000001, 0x00000001, 0x7fffffff, 0x00000001, 0x00000001],
+                [0x7fffffff, 0x7fffffff, 0x7fffffff, 0x7fffffff, 0x7fffffff],
+                [0x00000000, 0x00000001, 0x7fffffff, 0x80000000, 0xffffffff],
+                [0x00000000, 0x00000001, 0x7fffffff, 0xffffffff, 0xffffffff],
+            ],
+        ),
+    ];
+    for (op, rows) in table {
+        for (i, row) in rows.into_iter().enumerate() {
+            let value = add_unit(
+                op,
+                &Lanes {
+                    v: [ENDS[i]; LANES],
+                },
+                &END_LANES,
+            )
+            .0;
+            assert!(rt; value.v[..5] == row[..], "{op:?} {i}");
+        }
+    }
+}
+
+/// Expected values come from an independent program.
+#[test]
+fn bits_and_bytes_at_their_ends(rt: HostRuntime) {
+    let table: [(AddOp, Ends); 7] = [
+        (
+            AddOp::And,
+            [
+                [0x00000000, 0x00000000, 0x00000000, 0x00000000, 0x00000000],
+                [0x00000000, 0x00000001, 0x00000001, 0x00000000, 0x00000001],
+                [0x00000000, 0x00000001, 0x7fffffff, 0x00000000, 0x7fffffff],
+                [0x00000000, 0x00000000, 0x00000000, 0x80000000, 0x80000000],
+                [0x00000000, 0x00000001, 0x7fffffff, 0x80000000, 0xffffffff],
+            ],
+        ),
+        (
+            AddOp::Or,
+            [
+                [0x00000000, 0x00000001, 0x7fffffff, 0x80000000, 0xffffffff],
+                [0x00000001, 0x00000001, 0x7fffffff, 0x80000001, 0xffffffff],
+                [0x7fffffff, 0x7fffffff, 0x7fffffff, 0xffffffff, 0xffffffff],
+                [0x80000000, 0x80000001, 0xffffffff, 0x80000000, 0xffffffff],
+                [0xffffffff, 0xffffffff, 0xffffffff, 0xffffffff, 0xffffffff],
+            ],
+        ),
+        (
+            AddOp::Xor,
+            [
+                [0x00000000, 0x00000001, 0x7fffffff, 0x80000000, 0xffffffff],
+                [0x00000001, 0x00000000, 0x7ffffffe, 0x80000001, 0xfffffffe],
+                [0x7fffffff, 0x7ffffffe, 0x00000000, 0xffffffff, 0x80000000],
+                [0x80000000, 0x80000001, 0xffffffff, 0x00000000, 0x7fffffff],
+                [0xffffffff, 0xfffffffe, 0x80000000, 0x7fffffff, 0x00000000],
+            ],
+        ),
+        (
+            AddOp::Not,
+            [
+                [0xffffffff, 0xffffffff, 0xffffffff, 0xffffffff, 0xffffffff],
+                [0xfffffffe, 0xfffffffe, 0xfffffffe, 0xfffffffe, 0xfffffffe],
+                [0x80000000, 0x80000000, 0x80000000, 0x80000000, 0x80000000],
+                [0x7fffffff, 0x7fffffff, 0x7fffffff, 0x7fffffff, 0x7fffffff],
+                [0x00000000, 0x00000000, 0x00000000, 0x00000000, 0x00000000],
+            ],
+        ),
+        (
+            AddOp::Clz,
+            [
+                [0x00000020, 0x00000020, 0x00000020, 0x00000020, 0x00000020],
+                [0x0000001f, 0x0000001f, 0x0000001f, 0x0000001f, 0x0000001f],
+                [0x00000001, 0x00000001, 0x00000001, 0x00000001, 0x00000001],
+                [0x00000000, 0x00000000, 0x00000000, 0x00000000, 0x00000000],
+                [0x00000000, 0x00000000, 0x00000000, 0x00000000, 0x00000000],
+            ],
+        ),
+        (
+            AddOp::V8adds,
+            [
+                [0x00000000, 0x00000001, 0x7fffffff, 0x80000000, 0xffffffff],
+                [0x00000001, 0x00000002, 0x7fffffff, 0x80000001, 0xffffffff],
+                [0x7fffffff, 0x7fffffff, 0xfeffffff, 0xffffffff, 0xffffffff],
+                [0x80000000, 0x80000001, 0xffffffff, 0xff000000, 0xffffffff],
+                [0xffffffff, 0xffffffff, 0xffffffff, 0xffffffff, 0xffffffff],
+            ],
+        ),
+        (
+            AddOp::V8subs,
+            [
+                [0x00000000, 0x00000000, 0x00000000, 0x00000000, 0x00000000],
+                [0x00000001, 0x00000000, 0x00000000, 0x00000001, 0x00000000],
+                [0x7fffffff, 0x7ffffffe, 0x00000000, 0x00ffffff, 0x00000000],
+                [0x80000000, 0x80000000, 0x01000000, 0x00000000, 0x00000000],
+                [0xffffffff, 0xfffffffe, 0x80000000, 0x7fffffff, 0x00000000],
+            ],
+        ),
+    ];
+    for (op, rows) in table {
+        for (i, row) in rows.into_iter().enumerate() {
+            let value = add_unit(
+                op,
+                &Lanes {
+                    v: [ENDS[i]; LANES],
+                },
+                &END_LANES,
+            )
+            .0;
+            assert!(rt; value.v[..5] == row[..], "{op:?} {i}");
+        }
+    }
+}
+
+/// Expected values come from an independent program.
+#[test]
+fn products_and_bytes_at_their_ends(rt: HostRuntime) {
+    let table: [(MulOp, Ends); 6] = [
+        (
+            MulOp::Mul24,
+            [
+                [0x00000000, 0x00000000, 0x00000000, 0x00000000, 0x00000000],
+                [0x00000000, 0x00000001, 0x00ffffff, 0x00000000, 0x00ffffff],
+                [0x00000000, 0x00ffffff, 0xfe000001, 0x00000000, 0xfe000001],
+                [0x00000000, 0x00000000, 0x00000000, 0x00000000, 0x00000000],
+                [0x00000000, 0x00ffffff, 0xfe000001, 0x00000000, 0xfe000001],
+            ],
+        ),
+        (
+            MulOp::V8muld,
+            [
+                [0x00000000, 0x00000000, 0x00000000, 0x00000000, 0x00000000],
+                [0x00000000, 0x00000000, 0x00000001, 0x00000000, 0x00000001],
+                [0x00000000, 0x00000001, 0x3fffffff, 0x40000000, 0x7fffffff],
+                [0x00000000, 0x00000000, 0x40000000, 0x40000000, 0x80000000],
+                [0x00000000, 0x00000001, 0x7fffffff, 0x80000000, 0xffffffff],
+            ],
+        ),
+        (
+            MulOp::V8min,
+            [
+                [0x00000000, 0x00000000, 0x00000000, 0x00000000, 0x00000000],
+                [0x00000000, 0x00000001, 0x00000001, 0x00000000, 0x00000001],
+                [0x00000000, 0x00000001, 0x7fffffff, 0x7f000000, 0x7fffffff],
+                [0x00000000, 0x00000000, 0x7f000000, 0x80000000, 0x80000000],
+                [0x00000000, 0x00000001, 0x7fffffff, 0x80000000, 0xffffffff],
+            ],
+        ),
+        (
+            MulOp::V8max,
+            [
+                [0x00000000, 0x00000001, 0x7fffffff, 0x80000000, 0xffffffff],
+                [0x00000001, 0x00000001, 0x7fffffff, 0x80000001, 0xffffffff],
+                [0x7fffffff, 0x7fffffff, 0x7fffffff, 0x80ffffff, 0xffffffff],
+                [0x80000000, 0x80000001, 0x80ffffff, 0x80000000, 0xffffffff],
+                [0xffffffff, 0xffffffff, 0xffffffff, 0xffffffff, 0xffffffff],
+            ],
+        ),
+        (
+            MulOp::V8adds,
+            [
+                [0x00000000, 0x00000001, 0x7fffffff, 0x80000000, 0xffffffff],
+                [0x00000001, 0x00000002, 0x7fffffff, 0x80000001, 0xffffffff],
+                [0x7fffffff, 0x7fffffff, 0xfeffffff, 0xffffffff, 0xffffffff],
+                [0x80000000, 0x80000001, 0xffffffff, 0xff000000, 0xffffffff],
+                [0xffffffff, 0xffffffff, 0xffffffff, 0xffffffff, 0xffffffff],
+            ],
+        ),
+        (
+            MulOp::V8subs,
+            [
+                [0x00000000, 0x00000000, 0x00000000, 0x00000000, 0x00000000],
+                [0x00000001, 0x00000000, 0x00000000, 0x00000001, 0x00000000],
+                [0x7fffffff, 0x7ffffffe, 0x00000000, 0x00ffffff, 0x00000000],
+                [0x80000000, 0x80000000, 0x01000000, 0x00000000, 0x00000000],
+                [0xffffffff, 0xfffffffe, 0x80000000, 0x7fffffff, 0x00000000],
+            ],
+        ),
+    ];
+    for (op, rows) in table {
+        for (i, row) in rows.into_iter().enumerate() {
+            let value = mul_unit(
+                op,
+                &Lanes {
+                    v: [ENDS[i]; LANES],
+                },
+                &END_LANES,
+            );
+            assert!(rt; value.v[..5] == row[..], "{op:?} {i}");
+        }
+    }
+}
+
+/// The carries of sums and the borrows of differences, in the first five lanes.
+#[test]
+fn carries_at_the_ends(rt: HostRuntime) {
+    let table: [(u32, u32, u32); 5] = [
+        (0x00000000, 0b00000, 0b11110),
+        (0x00000001, 0b10000, 0b11100),
+        (0x7fffffff, 0b10000, 0b11000),
+        (0x80000000, 0b11000, 0b10000),
+        (0xffffffff, 0b11110, 0b00000),
+    ];
+    for (first, carries, borrows) in table {
+        let first = Lanes { v: [first; LANES] };
+        for (op, mask) in [(AddOp::Add, carries), (AddOp::Sub, borrows)] {
+            let (_, told) = add_unit(op, &first, &END_LANES);
+            assert!(rt; told.map(|told| told % 32) == Some(mask), "{op:?}");
+        }
+    }
+}

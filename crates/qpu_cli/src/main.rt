@@ -1,7 +1,7 @@
 //! The program: standard input and output, its arguments, and the exit status.
 #![tactic(auto)]
 
-use qpu_io::{StdSink, StdSource};
+use qpu_io::{Gathering, SinkFailed, StdSink, StdSource};
 use qpu_tool::{Status, plain};
 use qpu_word::NoMemory;
 use std::env;
@@ -32,10 +32,14 @@ fn words<R: Env + AllocGlobal>(rt: &R) -> Result<Vec<String>, NoMemory> {
 
 fn main(rt: HostRuntime) -> ExitCode {
     let mut source = StdSource::new(rt.stdin());
-    let mut sink = StdSink::new(rt.stdout());
+    let mut sink = Gathering::new(StdSink::new(rt.stdout()));
     let status = match words(&rt) {
         Ok(words) => plain(rt.alloc(), &words, &mut source, &mut sink),
         Err(NoMemory) => Status::NoMemory,
+    };
+    let status = match sink.finish() {
+        Ok(()) => status,
+        Err(SinkFailed) => Status::WriteFault,
     };
     ExitCode::from(status.code())
 }

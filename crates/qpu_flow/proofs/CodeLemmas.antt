@@ -7,7 +7,8 @@ use Rattle.std.proofs.lemmas.Bool.Decides.{nat_tests}
 use Rattle.qpu_word.specs.declared.word.Word.{Word}
 use Rattle.qpu_word.specs.Words.{writes_link, numbers_of}
 use Rattle.qpu_word.specs.Instruction.{is_link_point}
-use Rattle.qpu_flow.specs.Code.{fields_at}
+use Rattle.qpu_flow.specs.declared.decoded.Decoded.{Decoded}
+use Rattle.qpu_flow.specs.Code.{fields_at, decoded_of, all_decoded}
 use Rattle.qpu_flow.specs.Control.{link_points}
 
 pub length_numbers : (words : List Word) → length (numbers_of words) ≡ length words
@@ -18,6 +19,14 @@ length_numbers words = length-map words (λ (word : Word). word.0)
 pub number_at : (words : List Word) (at : ℕ) (d : Word) → at < length words → get_or (numbers_of words) at 0 ≡ (get_or words at d).0
 unfolding numbers_of
 number_at words at d there = get_or-map (λ (word : Word). word.0) words at d 0 there
+
+-- the word at a place, decoded
+pub decoded_at : (words : List Word) (at : ℕ) (d : Decoded) → at < length words → get_or (all_decoded words) at d ≡ decoded_of (get_or (numbers_of words) at 0)
+decoded_at words at d there =
+    get_or-map (λ (word : Word). decoded_of word.0) words at (record { 0 = 0 }) d there ∙ ap decoded_of (sym (number_at words at (record { 0 = 0 }) there))
+
+pub length_decoded : (words : List Word) → length (all_decoded words) ≡ length words
+length_decoded words = length-map words (λ (word : Word). decoded_of word.0)
 
 pub word_at : (words : List Word) (at : ℕ) (word : Word) → at < length words → word ≡ get_or words at word → word ≡ record { 0 = get_or (numbers_of words) at 0 }
 word_at words at word there is =

@@ -1,12 +1,22 @@
 -- A program as the list of its words' numbers, and where it leaves the profile. This project's own.
-use Rattle.std.specs.Prelude.{◌≡◌, ◌<◌, ℕ, List, length, Some, slice_index, EachIndex}
+use Rattle.std.specs.Prelude.{◌≡◌, ◌<◌, ℕ, List, length, Some, map, slice_index, EachIndex}
 use Rattle.qpu_word.specs.declared.word.Fields.{Fields}
 use Rattle.qpu_word.specs.declared.fault.WordFault.{WordFault}
-use Rattle.qpu_word.specs.Words.{fields_of, word_fault, IsInProfile}
+use Rattle.qpu_word.specs.declared.word.Word.{Word}
+use Rattle.qpu_word.specs.Words.{fields_of, is_local, word_fault, IsInProfile}
+use Rattle.qpu_flow.specs.declared.decoded.Decoded.{Decoded}
 
 -- the fields of the word at a place, counted in words from 0
 unfoldable pub fields_at : List ℕ → ℕ → Fields
 fields_at code at = fields_of (slice_index code at)
+
+-- the fields of a word, and whether it is local
+abbrev pub decoded_of : ℕ → Decoded
+decoded_of number = record { fields = fields_of number; local = is_local (fields_of number) }
+
+-- the words of a program, decoded
+abbrev pub all_decoded : List Word → List Decoded
+all_decoded words = map (λ word. decoded_of word.0) words
 
 -- each word of a program is in the profile
 abbrev pub AllInProfile : List ℕ → Type 0

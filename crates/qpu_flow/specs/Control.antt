@@ -15,7 +15,8 @@ use Rattle.qpu_flow.specs.declared.slots.Slots.{Slots}
 use Rattle.qpu_flow.specs.declared.slots.Successors.{Successors}
 use Rattle.qpu_flow.specs.declared.control.Target.{Target}
 use Rattle.qpu_flow.specs.declared.control.Target.TheVariants.{Byte, AnyLink as ToAnyLink}
-use Rattle.qpu_flow.specs.Code.{fields_at, AllInProfile}
+use Rattle.qpu_flow.specs.declared.decoded.Decoded.{Decoded}
+use Rattle.qpu_flow.specs.Code.{fields_at, all_decoded, AllInProfile}
 
 -- branches
 
@@ -43,11 +44,12 @@ is_word_byte code byte = (byte % INSTRUCTION_BYTES == 0) && nat_lt (byte / INSTR
 unfoldable pub link_points : List ℕ → List ℕ
 link_points code = filter (is_link_point code) (range_with_len 0 (length code))
 
--- a program's words and link points, as they are kept: few enough, all in the profile
-pub record IsFlow (words : List Word) (links : List ℕ) : Type 0 where
+-- a program's words, link points and decoded words, as they are kept: few enough, all in the profile
+pub record IsFlow (words : List Word) (links : List ℕ) (decoded : List Decoded) : Type 0 where
   pub short : length words ≤ PROGRAM_WORDS
   pub inside : AllInProfile (numbers_of words)
   pub points : links ≡ link_points (numbers_of words)
+  pub fields : decoded ≡ all_decoded words
 
 -- slots
 

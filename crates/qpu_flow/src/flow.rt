@@ -4,10 +4,11 @@ ghost use Rattle.std.specs.Option.{SomeIff};
 ghost use Rattle.std.specs.List.{range_with_len};
 ghost use Rattle.qpu_word.specs.Instruction.{is_link_point};
 ghost use Rattle.qpu_word.specs.Words.{word_fault, numbers_of};
-ghost use Rattle.qpu_flow.specs.Code.{fields_at, AllInProfile, IsFirstOutside};
+ghost use Rattle.qpu_flow.specs.Code.{fields_at, decoded_of, AllInProfile, IsFirstOutside};
 ghost use Rattle.qpu_flow.specs.Faults.{IsFlowFault};
 ghost use Rattle.qpu_flow.specs.Control.{link_points};
 
+use crate::decoded::{Decoded, decode};
 use qpu_word::code::BRANCH_SLOTS;
 use qpu_word::{Fields, NoMemory, Word, WordFault};
 use std::alloc::{AllocError, Global};
@@ -100,6 +101,7 @@ pub enum FlowFault {
 pub struct Flow {
     words: Vec<Word>,
     links: Vec<u32>,
+    decoded: Vec<Decoded>,
 }
 
 impl Model for Flow {
@@ -111,7 +113,7 @@ impl Model for Flow {
 
     ghost view = { λ flow. numbers_of flow.words.items };
 
-    ghost invariant = { λ flow. IsFlow flow.words.items flow.links.items };
+    ghost invariant = { λ flow. IsFlow flow.words.items flow.links.items flow.decoded.items };
 }
 
 impl Flow {
@@ -128,8 +130,15 @@ impl Flow {
         let Ok(links) = links_of(alloc, words) else {
             return Err(FlowFault::Memory);
         };
+        let Ok(decoded) = decode(alloc, words) else {
+            return Err(FlowFault::Memory);
+        };
         match Vec::from_slice(alloc, words) {
-            Ok(words) => Ok(Flow { words, links }),
+            Ok(words) => Ok(Flow {
+                words,
+                links,
+                decoded,
+            }),
             Err(_) => Err(FlowFault::Memory),
         }
     }
@@ -164,13 +173,21 @@ impl Flow {
         self.words.len() as u32
     }
 
+    /// The fields of the word at a place, and whether the word is local.
+    pub fn decoded(&self, at: u32) -> &Decoded
+        requires { at < length self.now }
+        ensures { result.now ≡ decoded_of (slice_index self.now at) }
+    {
+        &self.decoded[at as usize]
+    }
+
     /// The fields of the word at a place.
-    #[tactic(auto, using(crate::proofs::CodeLemmas::length_numbers))]
+    #[tactic(auto, unfolding(crate::specs::Code::fields_at))]
     pub fn fields(&self, at: u32) -> Fields
         requires { at < length self.now }
         ensures { result ≡ fields_at self.now at }
     {
-        fields_at(&self.words, at)
+        self.decoded(at).fields
     }
 
     /// The link points, in ascending order.

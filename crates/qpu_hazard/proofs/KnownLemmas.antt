@@ -1,6 +1,6 @@
 -- Trails of paths that break nothing: they fit, and a word that follows makes a path of its own.
-use Rattle.std.proofs.Common.{◌≡◌, ℕ, ◌-◌, ◌==◌, ◌<◌, ◌≤◌, true, List, [], ◌∷◌, length, Option, Some, None, refl, ap, sym, ◌∙◌, subst, arith}
-use Rattle.std.specs.Prelude.{IfSome, IsTrue, Contains, nat_lt}
+use Rattle.std.proofs.Common.{◌≡◌, ℕ, ◌-◌, ◌==◌, ◌<◌, ◌≤◌, Bool, true, false, List, [], ◌∷◌, length, Option, Some, None, refl, ap, sym, ◌∙◌, subst, arith}
+use Rattle.std.specs.Prelude.{IfSome, IsTrue, Contains, nat_lt, if◌then◌else◌}
 use Rattle.std.proofs.lemmas.Bool.{ltb-true}
 use Rattle.qpu_word.specs.declared.code.TheConstants.{WRITE_UNIFORMS_ADDRESS, BRANCH_SLOTS, END_SLOTS}
 use Rattle.qpu_word.specs.Words.{writes, is_branch, is_program_end}
@@ -11,13 +11,16 @@ use Rattle.qpu_flow.specs.Control.{one_less, slots_after, leads_to}
 use Rattle.qpu_hazard.specs.declared.breaks.Break.{Break}
 use Rattle.qpu_hazard.specs.declared.trail.Trail.{Trail}
 use Rattle.qpu_hazard.specs.Paths.{IsPath, broken, follows, next_of, last_of, earlier_of, slots_of, r4_defined, flags_defined, c_defined, outstanding_looks}
-use Rattle.qpu_hazard.specs.Trails.{trail, follows_from, broken_from, remembered, forget, kept_trail, onward}
+use Rattle.qpu_hazard.specs.Trails.{trail, follows_from, broken_from, remembered, forget}
+use Rattle.qpu_hazard.specs.declared.needs.Needs.{Needs}
+use Rattle.qpu_hazard.specs.Needs.{kept_trail, further}
 use Rattle.qpu_hazard.specs.Refusal.{IsRefusable}
 use Rattle.qpu_hazard.specs.Fitting.{Fits}
 use Rattle.qpu_hazard.specs.Search.{Known, hazard_at}
 use Rattle.qpu_hazard.proofs.Basics.{and_first, if_some, if_none, then_some}
 use Rattle.qpu_hazard.proofs.RuleLemmas.{BreaksNothing, breaks_nothing, few_after}
-use Rattle.qpu_hazard.proofs.TrailLemmas.{broken_kept, follows_kept, kept_law}
+use Rattle.qpu_hazard.proofs.PartValues.{way_of_path}
+use Rattle.qpu_hazard.proofs.NeedLemmas.{broken_kept, follows_kept, kept_law}
 
 -- a place below the length of the program
 abbrev IsThere : List ℕ → ℕ → Type 0
@@ -76,47 +79,58 @@ pub few_1 : (code t : List ℕ) → broken code t ≡ [] → outstanding_looks c
 few_1 code [] none = omega arith
 few_1 code (a ∷ t) none = few_after 1 (outstanding_looks code 1 t) (fields_at code a) a (rules_kept code t a none).rule_13_1
 
-kept_fits : (code t : List ℕ) → IsPath code t → broken code t ≡ [] → Fits code (kept_trail code t)
+spared_there : (code : List ℕ) (needed : Bool) (earlier : Option ℕ) → IfSome earlier (IsThere code) → IfSome (if needed then remembered code earlier else None) (IsThere code)
+spared_there code true earlier low = remembered_there code earlier low
+spared_there code false earlier low = tt
+
+spared_few : (needed : Bool) (looks : ℕ) → looks ≤ 4 → (if needed then looks else 2) ≤ 4
+spared_few true looks few = few
+spared_few false looks few = omega arith
+
+kept_fits : (needs : Needs) (code t : List ℕ) → IsPath code t → broken code t ≡ [] → Fits code (kept_trail needs code t)
 unfolding kept_trail forget trail
-kept_fits code t is_path clean = record {
+kept_fits needs code t is_path clean = record {
   last = last_there code t is_path;
-  earlier = remembered_there code (earlier_of t) (earlier_there code t is_path);
+  earlier = spared_there code needs.uniforms (earlier_of t) (earlier_there code t is_path);
   slots = slots_there code t is_path;
-  looks_0 = few_0 code t clean;
-  looks_1 = few_1 code t clean;
+  looks_0 = spared_few needs.looks_0 (outstanding_looks code 0 t) (few_0 code t clean);
+  looks_1 = spared_few needs.looks_1 (outstanding_looks code 1 t) (few_1 code t clean);
 }
 
 -- a known trail fits
-pub fits_known : (code : List ℕ) (r : Trail) → Known code r → Fits code r
-fits_known code r k = let P : Trail → Type 0 = Fits code in subst P k.is_kept (kept_fits code k.path k.is_path k.clean)
+pub fits_known : (needs : Needs) (code : List ℕ) (r : Trail) → Known needs code r → Fits code r
+fits_known needs code r k = let P : Trail → Type 0 = Fits code in subst P k.is_kept (kept_fits needs code k.path k.is_path k.clean)
 
 -- a word that follows a known trail follows its path
-follows_path : (code : List ℕ) (r : Trail) (a : ℕ) (k : Known code r) → IsTrue (follows_from code r a) → IsTrue (follows code k.path a)
-follows_path code r a k after =
-    follows_kept code k.path a ∙ ap (λ (x : Trail). follows_from code x a) k.is_kept ∙ after
+follows_path : (needs : Needs) (code : List ℕ) (r : Trail) (a : ℕ) (k : Known needs code r) → IsTrue (follows_from code r a) → IsTrue (follows code k.path a)
+follows_path needs code r a k after =
+    follows_kept needs code k.path a ∙ ap (λ (x : Trail). follows_from code x a) k.is_kept ∙ after
 
-broken_path : (code : List ℕ) (r : Trail) (a : ℕ) (k : Known code r) → broken code (a ∷ k.path) ≡ broken_from code r a
-broken_path code r a k = broken_kept code k.path a ∙ ap (λ (x : Trail). broken_from code x a) k.is_kept
+broken_path : (needs : Needs) (code : List ℕ) (r : Trail) (a : ℕ) (k : Known needs code r) → IsTrue (follows_from code r a) → broken code (a ∷ k.path) ≡ broken_from code r a
+broken_path needs code r a k after =
+    broken_kept needs code k.path a k.sparing (way_of_path code k.path k.is_path) (follows_path needs code r a k after)
+    ∙ ap (λ (x : Trail). broken_from code x a) k.is_kept
 
 -- and stands in the program
-pub there_known : (code : List ℕ) (r : Trail) (a : ℕ) → Known code r → IsTrue (follows_from code r a) → a < length code
-there_known code r a k after = there code k.path a (follows_path code r a k after)
+pub there_known : (needs : Needs) (code : List ℕ) (r : Trail) (a : ℕ) → Known needs code r → IsTrue (follows_from code r a) → a < length code
+there_known needs code r a k after = there code k.path a (follows_path needs code r a k after)
 
 -- what it breaks is refusable
-pub refusable_after : (code : List ℕ) (r : Trail) (a : ℕ) (b : Break) → Known code r → IsTrue (follows_from code r a)
+pub refusable_after : (needs : Needs) (code : List ℕ) (r : Trail) (a : ℕ) (b : Break) → Known needs code r → IsTrue (follows_from code r a)
     → Contains (broken_from code r a) b → IsRefusable code (hazard_at a b)
-refusable_after code r a b k after has = record {
+refusable_after needs code r a b k after has = record {
   path = a ∷ k.path;
-  is_path = (k.is_path, k.clean, follows_path code r a k after);
+  is_path = (k.is_path, k.clean, follows_path needs code r a k after);
   ends = refl;
-  breaks = subst (λ (l : List Break). Contains l b) (sym (broken_path code r a k)) has;
+  breaks = subst (λ (l : List Break). Contains l b) (sym (broken_path needs code r a k after)) has;
 }
 
 -- where it breaks nothing, the next trail is known
-pub known_onward : (code : List ℕ) (r : Trail) (a : ℕ) → Known code r → IsTrue (follows_from code r a) → broken_from code r a ≡ [] → Known code (onward code r a)
-known_onward code r a k after none = record {
+pub known_onward : (needs : Needs) (code : List ℕ) (r : Trail) (a : ℕ) → Known needs code r → IsTrue (follows_from code r a) → broken_from code r a ≡ [] → Known needs code (further needs code r a)
+known_onward needs code r a k after none = record {
+  sparing = k.sparing;
   path = a ∷ k.path;
-  is_path = (k.is_path, k.clean, follows_path code r a k after);
-  clean = broken_path code r a k ∙ none;
-  is_kept = kept_law code k.path a ∙ ap (λ (x : Trail). onward code x a) k.is_kept;
+  is_path = (k.is_path, k.clean, follows_path needs code r a k after);
+  clean = broken_path needs code r a k after ∙ none;
+  is_kept = kept_law needs code k.path a ∙ ap (λ (x : Trail). further needs code x a) k.is_kept;
 }

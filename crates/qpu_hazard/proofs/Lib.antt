@@ -11,3 +11,8 @@ pub mod HoldLemmas
 pub mod ProcessorLemmas
 pub mod MaskLemmas
 pub mod FirstLemmas
+pub mod ClosedLemmas
+pub mod VisitLemmas
+pub mod PartLemmas
+pub mod PartValues
+pub mod NeedLemmas

@@ -9,13 +9,13 @@ use Rattle.qpu_flow.specs.declared.slots.Slots.{Slots}
 use Rattle.qpu_hazard.specs.declared.trail.Trail.{Trail}
 use Rattle.qpu_hazard.proofs.Basics.{and_first, and_second}
 
-same_option : {A : Type 0} (eq : A → A → Bool) → ((x y : A) → eq x y ≡ true → x ≡ y) → (o p : Option A) → option_eq eq o p ≡ true → o ≡ p
+pub same_option : {A : Type 0} (eq : A → A → Bool) → ((x y : A) → eq x y ≡ true → x ≡ y) → (o p : Option A) → option_eq eq o p ≡ true → o ≡ p
 same_option eq same None None e = refl
 same_option eq same None (Some y) e = cc
 same_option eq same (Some x) None e = cc
 same_option eq same (Some x) (Some y) e = ap (λ z. Some z) (same x y e)
 
-same_bool : (x y : Bool) → beq x y ≡ true → x ≡ y
+pub same_bool : (x y : Bool) → beq x y ≡ true → x ≡ y
 same_bool true true e = refl
 same_bool true false e = cc
 same_bool false true e = cc

@@ -1,6 +1,6 @@
 -- The trail decides: what may follow a path, what the next word breaks, and the next trail; also
 -- once what no later word depends on is forgotten.
-use Rattle.std.proofs.Common.{◌≡◌, ℕ, Bool, true, false, List, ◌∷◌, ◌&&◌, Option, Some, None, refl, ap, sym}
+use Rattle.std.proofs.Common.{◌≡◌, ℕ, Bool, true, false, List, ◌&&◌, Option, Some, None, refl, ap, sym}
 use Rattle.std.specs.Prelude.{if◌then◌else◌}
 use Rattle.qpu_word.specs.declared.word.Fields.{Fields}
 use Rattle.qpu_word.specs.declared.code.TheConstants.{WRITE_UNIFORMS_ADDRESS, READ_UNIFORM}
@@ -8,9 +8,8 @@ use Rattle.qpu_word.specs.Words.{writes, reads}
 use Rattle.qpu_flow.specs.Code.{fields_at}
 use Rattle.qpu_hazard.specs.Demands.{uniform_conflict}
 use Rattle.qpu_hazard.specs.Rules.{break_when, h4, rules_broken}
-use Rattle.qpu_hazard.specs.Paths.{broken, follows}
 use Rattle.qpu_hazard.specs.declared.trail.Trail.{Trail}
-use Rattle.qpu_hazard.specs.Trails.{trail, advance, follows_from, broken_from, remembered, forget, kept_trail, onward}
+use Rattle.qpu_hazard.specs.Trails.{advance, follows_from, broken_from, remembered, forget, onward}
 
 no_conflict : (before f : Fields) → writes before WRITE_UNIFORMS_ADDRESS ≡ false → uniform_conflict before f ≡ false
 unfolding uniform_conflict
@@ -39,17 +38,3 @@ broken_forgotten code r a = rw (h4_remembered code r.earlier (fields_at code a))
 pub next_forgotten : (code : List ℕ) (r : Trail) (a : ℕ) → onward code (forget code r) a ≡ onward code r a
 unfolding onward forget advance
 next_forgotten code r a = refl
-
--- the trail of a path, once it forgets
-
-pub broken_kept : (code t : List ℕ) (a : ℕ) → broken code (a ∷ t) ≡ broken_from code (kept_trail code t) a
-unfolding broken broken_from kept_trail trail
-broken_kept code t a = sym (broken_forgotten code (trail code t) a)
-
-pub follows_kept : (code t : List ℕ) (a : ℕ) → follows code t a ≡ follows_from code (kept_trail code t) a
-unfolding follows follows_from kept_trail trail
-follows_kept code t a = sym (follows_forgotten code (trail code t) a)
-
-pub kept_law : (code t : List ℕ) (a : ℕ) → kept_trail code (a ∷ t) ≡ onward code (kept_trail code t) a
-unfolding kept_trail onward advance trail
-kept_law code t a = sym (next_forgotten code (trail code t) a)

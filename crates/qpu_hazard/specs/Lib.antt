@@ -8,3 +8,6 @@ pub mod Search
 pub mod Faults
 pub mod Standing
 pub mod Holds
+pub mod Parts
+pub mod Marks
+pub mod Needs

@@ -53,9 +53,6 @@ remembered code (Some a) = if writes (fields_at code a) WRITE_UNIFORMS_ADDRESS t
 unfoldable pub forget : List ℕ → Trail → Trail
 forget code r = record r { earlier = remembered code r.earlier }
 
--- what is kept of a path, and of a trail one word further
-unfoldable pub kept_trail : List ℕ → List ℕ → Trail
-kept_trail code t = forget code (trail code t)
-
+-- a trail one word further, without what no later word depends on
 unfoldable pub onward : List ℕ → Trail → ℕ → Trail
 onward code r a = forget code (advance code r a)

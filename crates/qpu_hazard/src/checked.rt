@@ -3,14 +3,15 @@ ghost use Rattle.std.specs.Prelude.{◌≡◌, ◌<◌, ◌≤◌, length, IfOk,
 ghost use Rattle.std.specs.Option.{SomeIff};
 ghost use Rattle.qpu_word.specs.Instruction.{is_link_point};
 ghost use Rattle.qpu_word.specs.Words.{numbers_of};
-ghost use Rattle.qpu_flow.specs.Code.{AllInProfile};
+ghost use Rattle.qpu_flow.specs.Code.{decoded_of, AllInProfile};
 ghost use Rattle.qpu_hazard.specs.Paths.{IsClean};
 ghost use Rattle.qpu_hazard.specs.Refusal.{NoneRefusable};
 ghost use Rattle.qpu_hazard.specs.Faults.{IsHazardFault, IsCheckFault};
 
+use crate::needs::Needs;
 use crate::rules::H10;
 use crate::search::explore;
-use qpu_flow::{Flow, FlowFault};
+use qpu_flow::{Decoded, Flow, FlowFault};
 use qpu_word::{Program, Word, WordFault};
 use std::alloc::Global;
 use std::marker::Model;
@@ -66,7 +67,11 @@ pub fn judge(alloc: Global, flow: Flow) -> Result<Checked, CheckFault>
             before: 0,
         });
     }
-    let Ok(search) = explore(alloc, &flow) else {
+    let needs = Needs::of(alloc, &flow);
+    if !needs.are_any() {
+        return Ok(Checked { flow });
+    }
+    let Ok(search) = explore(alloc, &flow, needs) else {
         return Err(CheckFault::Memory);
     };
     match search.best {
@@ -104,6 +109,14 @@ impl Checked {
         ensures clean { IsClean self.now }
     {
         self.flow.words()
+    }
+
+    /// The fields of the word at a place, and whether the word is local.
+    pub fn decoded(&self, at: u32) -> &Decoded
+        requires { at < length self.now }
+        ensures { result.now ≡ decoded_of (slice_index self.now at) }
+    {
+        self.flow.decoded(at)
     }
 }
 

@@ -14,6 +14,7 @@ ghost use Rattle.qpu_hazard.specs.Demands.{sets_flags};
 ghost use Rattle.qpu_hazard.specs.Holds.{WordHolds};
 ghost use Rattle.qpu_hazard.specs.Paths.{IsPath, IsClean, broken, carry_after, follows, slots_of};
 ghost use Rattle.qpu_hazard.specs.Refusal.{NoneRefusable, OneFirst};
+ghost use Rattle.qpu_hazard.specs.Parts.{IsCleanByParts};
 ghost use Rattle.qpu_hazard.specs.Faults.{NoFault, OneFault};
 ghost use Rattle.qpu_hazard.specs.Standing.{Stands, Goes, ProcessorStands, ProcessorGoes};
 ghost use Rattle.qpu_hazard.specs.declared.trail.Trail.{Trail};
@@ -50,6 +51,13 @@ pub fn forgetting_changes_nothing()
 pub fn clean_programs_are_not_refused()
     ensures clean { (code : List ℕ) → NoneRefusable code → IsClean code }
     ensures none { (code : List ℕ) → IsClean code → NoneRefusable code }
+{}
+
+/// A program is clean exactly where it is clean part by part: each part of the rules is judged on
+/// all ways of control, whatever the other parts say.
+pub fn clean_programs_are_clean_by_parts()
+    ensures clean { (code : List ℕ) → IsCleanByParts code → IsClean code }
+    ensures parts { (code : List ℕ) → IsClean code → IsCleanByParts code }
 {}
 
 /// Of a program one hazard at most is first.

@@ -11,6 +11,10 @@ mod breaks;
 mod checked;
 mod demands;
 mod laws;
+mod mark;
+mod marks;
+mod needs;
+mod part;
 mod rules;
 mod search;
 mod seen;
@@ -19,10 +23,10 @@ mod trail;
 pub use breaks::{Break, Hazard};
 pub use checked::{CheckFault, Checked, Programs, check, judge};
 pub use laws::{
-    a_word_defines_masks, clean_programs_are_not_refused, forgetting_changes_nothing,
-    one_check_fault, one_hazard_is_first, opens_on_a_path, processors_open_on_a_path,
-    processors_stay_on_a_path, stays_on_a_path, the_next_word_holds, trails_tell_the_next_trail,
-    trails_tell_what_breaks, trails_tell_what_follows,
+    a_word_defines_masks, clean_programs_are_clean_by_parts, clean_programs_are_not_refused,
+    forgetting_changes_nothing, one_check_fault, one_hazard_is_first, opens_on_a_path,
+    processors_open_on_a_path, processors_stay_on_a_path, stays_on_a_path, the_next_word_holds,
+    trails_tell_the_next_trail, trails_tell_what_breaks, trails_tell_what_follows,
 };
 pub use trail::Trail;
 

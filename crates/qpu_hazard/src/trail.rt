@@ -58,7 +58,7 @@ fn carry_after(f: &Fields, before: bool) -> bool
 }
 
 /// The outstanding look-ups of a unit, 0 or 1, after a word.
-fn looks_after(f: &Fields, unit: u32, looks: u32) -> u32
+pub(crate) fn looks_after(f: &Fields, unit: u32, looks: u32) -> u32
     requires unit { unit < 2 }
     requires few { looks ≤ 4 }
     ensures { result ≡ looks_after f.now unit looks }

@@ -1,2 +1,4 @@
+pub mod Handing
 pub mod Inputs
 pub mod Outputs
+pub mod Waits

@@ -1,4 +1,5 @@
 pub mod Faults
+pub mod Gathered
 pub mod Input
 pub mod Output
 pub mod Stores

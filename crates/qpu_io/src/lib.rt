@@ -7,14 +7,17 @@
 #![tactic(auto)]
 
 mod filling;
+mod gathering;
 mod mem;
 mod pieces;
 mod plain;
 mod reading;
 mod standard;
 mod stream;
+mod waiting;
 mod writing;
 
+pub use gathering::Gathering;
 pub use mem::{MemSink, MemSource};
 pub use pieces::{Piece, put_all};
 pub use plain::{PlainSink, PlainSource};

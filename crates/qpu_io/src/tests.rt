@@ -80,3 +80,43 @@ fn puts_each_kind_of_piece(rt: HostRuntime) -> Result<(), Fail> {
     assert_eq!(rt; sink.bytes(), want.as_slice());
     Ok(())
 }
+
+#[test]
+fn gathers_and_hands_on(rt: HostRuntime) -> Result<(), Fail> {
+    let mut sink = PlainSink::new(rt.alloc());
+    sink.reserve(8).map_err(|_| "memory")?;
+    let mut gathering = Gathering::new(sink);
+    assert_eq!(rt; write_all_of(&mut gathering, b"one "), Ok(()));
+    assert_eq!(rt; write_all_of(&mut gathering, b"two"), Ok(()));
+    assert_eq!(rt; gathering.sink().bytes(), b"".as_slice());
+    assert_eq!(rt; gathering.finish(), Ok(()));
+    assert_eq!(rt; gathering.sink().bytes(), b"one two".as_slice());
+    Ok(())
+}
+
+#[test]
+fn hands_on_when_full(rt: HostRuntime) -> Result<(), Fail> {
+    let mut sink = PlainSink::new(rt.alloc());
+    sink.reserve(65_540).map_err(|_| "memory")?;
+    let mut gathering = Gathering::new(sink);
+    for _ in 0..65_536 {
+        assert_eq!(rt; gathering.write(b"a"), Ok(1));
+    }
+    assert_eq!(rt; gathering.sink().bytes().len(), 0);
+    assert_eq!(rt; gathering.write(b"b"), Ok(1));
+    assert_eq!(rt; gathering.sink().bytes().len(), 65_536);
+    assert_eq!(rt; gathering.finish(), Ok(()));
+    assert_eq!(rt; gathering.sink().bytes().get(65_536), Some(&b'b'));
+    Ok(())
+}
+
+#[test]
+fn keeps_back_what_a_failed_write_left(rt: HostRuntime) -> Result<(), Fail> {
+    let mut sink = PlainSink::new(rt.alloc());
+    sink.reserve(3).map_err(|_| "memory")?;
+    let mut gathering = Gathering::new(sink);
+    assert_eq!(rt; write_all_of(&mut gathering, b"four"), Ok(()));
+    assert_eq!(rt; gathering.finish(), Err(SinkFailed));
+    assert_eq!(rt; gathering.sink().bytes(), b"fou".as_slice());
+    Ok(())
+}

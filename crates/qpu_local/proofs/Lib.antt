@@ -1,3 +1,4 @@
 pub mod UnitLemmas
 pub mod StayLemmas
 pub mod StoreLemmas
+pub mod WholeLemmas

@@ -5,7 +5,7 @@ ghost use Rattle.qpu_word.specs.Flags.{z_of, n_of, c_of, lane_test, mask_test, b
 ghost use Rattle.qpu_word.specs.Instruction.{zn_of, flags_of, unit_flags, load_flags};
 
 use qpu_word::code::BRANCH_ALWAYS;
-use qpu_word::{Fields, Flags, Lanes, with_lane};
+use qpu_word::{Fields, Flags, Lanes, negatives, zeros};
 
 /// A mask of all lanes.
 const ALL: u32 = 0xffff;
@@ -17,9 +17,6 @@ const BY_N: u32 = 4;
 const BY_C: u32 = 8;
 
 const RESERVED: u32 = 12;
-
-/// The bit of the sign.
-const SIGN: u32 = 0x8000_0000;
 
 /// The mask Z, 0 where it is undefined.
 fn zeros_set(flags: &Flags) -> u32
@@ -105,37 +102,14 @@ pub fn branches(cond: u32, flags: &Flags) -> bool
     }
 }
 
-/// The lanes whose result is 0.
-#[tactic(auto, using(qpu_word::proofs::LaneLemmas::masks))]
-fn zeros(values: &Lanes) -> u32
-    ensures { result ≡ mask (λ i. lane values.now.v i == 0) }
-{
-    let mut zeros = 0;
-    for i in 0..16 {
-        zeros = with_lane(zeros, i, values.v[i as usize] == 0);
-    }
-    zeros
-}
-
-/// The lanes whose result has its high bit set.
-#[tactic(auto, using(qpu_word::proofs::LaneLemmas::masks))]
-fn negatives(values: &Lanes) -> u32
-    ensures { result ≡ mask (λ i. nat_le (2 ^ 31) (lane values.now.v i)) }
-{
-    let mut negatives = 0;
-    for i in 0..16 {
-        negatives = with_lane(negatives, i, values.v[i as usize] >= SIGN);
-    }
-    negatives
-}
-
 /// The flags that a list of results sets, with a mask C.
 #[tactic(auto, unfolding(qpu_word::specs::Instruction::zn_of))]
 fn set_by(values: &Lanes, c: Option<u32>) -> Flags
     ensures { result ≡ flags_of values.now.v c }
 {
+    let results = values.vector();
     Flags {
-        zn: Some((zeros(values), negatives(values))),
+        zn: Some((zeros(results), negatives(results))),
         c,
     }
 }

@@ -14,6 +14,7 @@ mod sending;
 mod stepping;
 mod storing;
 mod units;
+mod whole;
 
 pub use processor::Processor;
 pub use qpu_word::{Flags, Halt};

@@ -17,6 +17,7 @@ use crate::outs::outs;
 use crate::processor::Processor;
 use crate::sending::Sent;
 use crate::storing::cond_of;
+use crate::whole::is_whole;
 use qpu_word::code::{NOWHERE, WRITE_HOST_INT};
 use qpu_word::{Book, FaultKind, Fields, Flags, Halt, Ins, LANES, Lanes, Program, Word};
 
@@ -87,9 +88,9 @@ impl Processor {
         )
     }
 
-    /// Writes the registers.
+    /// Writes the registers, whatever the condition and packing.
     #[tactic(auto, unfolding(qpu_word::specs::Instruction::registers_after))]
-    fn put_registers(&mut self, f: &Fields, ins: &Ins, sent: &Sent)
+    fn put_left(&mut self, f: &Fields, ins: &Ins, sent: &Sent)
         requires fit { IsFit f.now }
         requires add { sent.now.add.v ≡ add_sent f.now self.old ins.now }
         requires mul { sent.now.mul.v ≡ mul_sent f.now self.old ins.now }
@@ -102,27 +103,56 @@ impl Processor {
         self.put_loaded(f, ins);
     }
 
-    /// Moves on by one instruction.
+    /// Writes the registers.
+    fn put_registers(&mut self, f: &Fields, ins: &Ins, sent: &Sent)
+        requires fit { IsFit f.now }
+        requires add { sent.now.add.v ≡ add_sent f.now self.old ins.now }
+        requires mul { sent.now.mul.v ≡ mul_sent f.now self.old ins.now }
+        ensures { self.new ≡ registers_after f.now self.old ins.now }
+    {
+        if is_whole(f) {
+            self.put_whole(f, ins, sent);
+            return;
+        }
+        self.put_left(f, ins, sent);
+    }
+
+    /// Moves on by one instruction, with the book as it is.
     #[tactic(auto, unfolding(qpu_word::specs::Instruction::moved_on))]
-    fn move_on(&mut self, flags: Flags, next: NextControl, book: Book, raised: u32)
+    fn go_on(&mut self, flags: Flags, next: NextControl, raised: u32)
         requires executed { self.old.executed < 1000000 }
         requires place { next.place ≤ 2 ^ 29 + self.old.executed + 1 }
         requires coming { coming_place next.rest < 2 ^ 29 }
         requires raised { raised ≤ 1 }
-        requires sound { IsSoundBook book }
-        ensures { self.new ≡ moved_on flags next.place next.rest book raised next.halt self.old }
+        ensures { self.new ≡ moved_on flags next.place next.rest self.old.book raised next.halt self.old }
     {
         self.flags = flags;
         self.place = next.place;
         self.rest = next.rest;
-        self.book = book;
         self.executed += 1;
         self.interrupts += raised;
         self.halt = next.halt;
     }
 
+    /// Does the whole instruction but for its book, with what it read and what it sends.
+    #[tactic(auto, unfolding(qpu_word::specs::Instruction::done), using(qpu_word::proofs::KeptLemmas::executed_kept, crate::proofs::WholeLemmas::book_kept))]
+    fn finish_within(&mut self, f: &Fields, ins: &Ins, sent: &Sent)
+        requires fit { IsFit f.now }
+        requires executed { self.old.executed < 1000000 }
+        requires place { IsTrue (is_branch f.now) → self.old.place < 4096 }
+        requires add { sent.now.add.v ≡ add_sent f.now self.old ins.now }
+        requires mul { sent.now.mul.v ≡ mul_sent f.now self.old ins.now }
+        requires flags { sent.now.flags ≡ flags_after f.now self.old ins.now }
+        ensures { self.new ≡ done f.now self.old ins.now self.old.book }
+    {
+        let next = self.next(f);
+        let raised = if f.writes(WRITE_HOST_INT) { 1 } else { 0 };
+        self.put_registers(f, ins, sent);
+        self.go_on(sent.flags, next, raised);
+    }
+
     /// Does the whole instruction, with what it read, what it sends and its new book.
-    #[tactic(auto, unfolding(qpu_word::specs::Instruction::done), using(qpu_word::proofs::KeptLemmas::executed_kept))]
+    #[tactic(auto, unfolding(qpu_word::specs::Instruction::done, qpu_word::specs::Instruction::moved_on))]
     pub(crate) fn finish(&mut self, f: &Fields, ins: &Ins, sent: &Sent, book: Book)
         requires fit { IsFit f.now }
         requires executed { self.old.executed < 1000000 }
@@ -133,10 +163,8 @@ impl Processor {
         requires sound { IsSoundBook book }
         ensures { self.new ≡ done f.now self.old ins.now book }
     {
-        let next = self.next(f);
-        let raised = if f.writes(WRITE_HOST_INT) { 1 } else { 0 };
-        self.put_registers(f, ins, sent);
-        self.move_on(sent.flags, next, book, raised);
+        self.finish_within(f, ins, sent);
+        self.book = book;
     }
 
     /// Faults at its place: the halt alone changes.
@@ -157,7 +185,7 @@ impl Processor {
         ensures { (ins : Ins) → self.new ≡ done f.now self.old ins self.old.book }
     {
         let next = self.next(f);
-        self.move_on(self.flags(), next, self.book_now(), 0);
+        self.go_on(self.flags(), next, 0);
     }
 
     /// Does a local word that writes no address past the registers.
@@ -173,8 +201,7 @@ impl Processor {
         }
         let ins = nothing_read();
         let sent = self.sent(f, &ins);
-        let book = self.book_now();
-        self.finish(f, &ins, &sent, book);
+        self.finish_within(f, &ins, &sent);
     }
 
     /// Does a local word that may write a setup or the uniforms address.

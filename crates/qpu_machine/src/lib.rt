@@ -15,6 +15,7 @@ mod laws;
 mod machine;
 mod opening;
 mod putting;
+mod runs;
 mod serial;
 mod start;
 mod stepping;
@@ -31,5 +32,6 @@ pub use laws::{
     running_out_is_at_the_limit, schedules_are_bounded, schedules_run, traces_are_paths,
 };
 pub use machine::Machine;
+pub use runs::{JournalRuns, Runs};
 pub use start::Start;
 pub use stretching::stretch;

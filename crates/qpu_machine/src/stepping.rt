@@ -1,5 +1,5 @@
 //! One step of each actor.
-ghost use Rattle.std.specs.Prelude.{◌≡◌, ◌≢◌, ◌<◌, ◌≤◌, ◌+◌, ℕ, length, slice_index, slice_index_or, IsTrue, true, Some, []};
+ghost use Rattle.std.specs.Prelude.{◌≡◌, ◌≢◌, ◌<◌, ◌≤◌, ◌+◌, ℕ, length, slice_index, slice_index_or, IsTrue, false, true, Some, []};
 ghost use Rattle.qpu_word.specs.declared.state.Halt.TheVariants.{Going};
 ghost use Rattle.qpu_word.specs.Words.{fields_of, is_local, IsInProfile};
 ghost use Rattle.qpu_word.specs.Instruction.{is_link_point, local_result};
@@ -34,6 +34,25 @@ pub(crate) fn do_local(p: &mut Processor, program: &Checked, f: &Fields) -> Did
 }
 
 /// Does the word at the place of processor q, below 12, which goes on, has executed fewer than
+/// 1,000,000 instructions, and stands on a path of its program. The word is a shared one.
+fn do_shared(p: &mut Processor, program: &Checked, shared: &mut Shared, q: u32) -> Did
+    requires q { q < 12 }
+    requires pending { q < length shared.old.pending }
+    requires number { p.old.q ≡ q }
+    requires going { p.old.halt ≡ Going }
+    requires executed { p.old.executed < 1000000 }
+    requires on_path { IsOnPath program.now p.old (pending_of shared.old q).looks }
+    requires shared { is_local (fields_of (slice_index program.now p.old.place)) ≡ false }
+    ensures { Does result (outcome_under (first_cause (fields_of (slice_index program.now p.old.place)) q shared.old) (instruction_result (is_link_point program.now) (slice_index program.now p.old.place) p.old shared.old)) p.old shared.old p.new shared.new }
+{
+    let _words = program.words();
+    let Some(word) = program.word(p.place()) else {
+        unreachable!()
+    };
+    shared.exec(q, p, word)
+}
+
+/// Does the word at the place of processor q, below 12, which goes on, has executed fewer than
 /// 1,000,000 instructions, and stands on a path of its program.
 fn do_word(p: &mut Processor, program: &Checked, shared: &mut Shared, q: u32) -> Did
     requires q { q < 12 }
@@ -45,14 +64,11 @@ fn do_word(p: &mut Processor, program: &Checked, shared: &mut Shared, q: u32) ->
     ensures { Does result (outcome_under (first_cause (fields_of (slice_index program.now p.old.place)) q shared.old) (instruction_result (is_link_point program.now) (slice_index program.now p.old.place) p.old shared.old)) p.old shared.old p.new shared.new }
 {
     let _words = program.words();
-    let Some(word) = program.word(p.place()) else {
-        unreachable!()
-    };
-    let f = word.fields();
-    if f.is_local() {
-        do_local(p, program, &f)
+    let word = program.decoded(p.place());
+    if word.local {
+        do_local(p, program, &word.fields)
     } else {
-        shared.exec(q, p, word)
+        do_shared(p, program, shared, q)
     }
 }
 

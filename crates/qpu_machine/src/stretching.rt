@@ -19,14 +19,11 @@ fn step_alone(processor: &mut Processor, program: &Checked, limit: u32) -> bool
         return false;
     }
     let _words = program.words();
-    let Some(word) = program.word(processor.place()) else {
-        unreachable!()
-    };
-    let f = word.fields();
-    if !f.is_local() {
+    let word = program.decoded(processor.place());
+    if !word.local {
         return false;
     }
-    do_local(processor, program, &f);
+    do_local(processor, program, &word.fields);
     true
 }
 

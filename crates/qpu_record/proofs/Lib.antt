@@ -1,6 +1,7 @@
 pub mod Apart
 pub mod EndLemmas
 pub mod MergedLemmas
+pub mod LeftLemmas
 pub mod LineLemmas
 pub mod ItemLemmas
 pub mod ReadLemmas

@@ -15,7 +15,7 @@ use Rattle.qpu_text.specs.Bytes.{is_lf}
 use Rattle.qpu_text.specs.Lines.{Cut, with_front, cut_at, first_line}
 use Rattle.qpu_record.specs.Items.{item_at}
 use Rattle.qpu_record.specs.Heading.{and_then}
-use Rattle.qpu_record.specs.Reading.{Schedule, is_end, ended, open_item, schedule_of, Fails}
+use Rattle.qpu_record.specs.Reading.{Schedule, is_end, ended, open_item, schedule_of}
 
 -- the schedule, by its first line
 
@@ -101,10 +101,3 @@ read_more number runs rest cut run r is other item found long few = record {
 -- the counts of runs stay small
 pub has_room : {due : Result Schedule RecordFault} (number : ℕ) (runs : List Run) (rest : List ℕ) (actor : Actor) (count : ℕ) → IsRead due number runs rest → count ≤ MOST_COUNT → last_count runs actor + count < 2 ^ 64
 has_room number runs rest actor count r few = omega (arith, last_few runs actor, r.steps, r.room, few)
-
--- a fault that isn't want of memory is the one that is due
-pub told_fault : {A : Type 0} (due : Result A RecordFault) (f : RecordFault) → due ≡ Err f → Fails f due
-told_fault due fault.Version e = e
-told_fault due (fault.Line n) e = e
-told_fault due (fault.Number n) e = e
-told_fault due fault.Memory e = tt

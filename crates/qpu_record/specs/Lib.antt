@@ -2,6 +2,8 @@ pub mod Record
 pub mod Apart
 pub mod Numbers
 pub mod Items
+pub mod Left
 pub mod Heading
 pub mod Reading
 pub mod Grammar
+pub mod Told

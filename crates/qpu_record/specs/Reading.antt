@@ -1,12 +1,10 @@
 -- What a record has, or its first fault, line after line. This project's own.
-use Rattle.std.specs.Prelude.{◌≡◌, ℕ, ◌+◌, Bool, List, [], ◌∷◌, ◌++◌, codes, bytes_eq, string_bytes, Result, Ok, Err, if◌then◌else◌}
+use Rattle.std.specs.Prelude.{ℕ, ◌+◌, Bool, List, [], ◌∷◌, ◌++◌, codes, bytes_eq, Result, Ok, Err, if◌then◌else◌}
 use Rattle.qpu_machine.specs.declared.journal.Run.{Run}
 use Rattle.qpu_machine.specs.Journal.{pushed}
 use Rattle.qpu_record.specs.declared.fault.RecordFault.{RecordFault}
 use Rattle.qpu_record.specs.declared.fault.RecordFault.TheVariants as fault
-use Rattle.qpu_record.specs.declared.parts.RecordParts.{RecordParts}
 use Rattle.qpu_record.specs.declared.parts.Version.{Version}
-use Rattle.qpu_record.specs.declared.reading.Schedule.{Schedule as Told}
 use Rattle.qpu_text.specs.Bytes.{is_lf}
 use Rattle.qpu_record.specs.Items.{item_at}
 use Rattle.qpu_record.specs.Heading.{Heading, heading_of, and_then}
@@ -62,26 +60,3 @@ after_heading heading =
 -- what a record has, or its first fault
 unfoldable pub record_of : List ℕ → Result Parts RecordFault
 record_of text = and_then (heading_of text) after_heading
-
--- a call answered what is due, seen without where it lies in memory; want of memory is free
-
-abbrev pub Fails : {Y : Type 0} → RecordFault → Result Y RecordFault → Type 0
-Fails fault.Memory due = Unit {0}
-Fails other due = due ≡ Err other
-
-abbrev pub GivesRecord : {X Y : Type 0} → (X → Y) → Result X RecordFault → Result Y RecordFault → Type 0
-GivesRecord view (Ok x) due = due ≡ Ok (view x)
-GivesRecord view (Err fault) due = Fails fault due
-
-abbrev pub parts_of : RecordParts → Parts
-parts_of parts = record {
-  version = parts.version;
-  job = string_bytes parts.job;
-  runs = parts.journal;
-  rest = string_bytes parts.rest;
-  rest_line = parts.rest_line;
-}
-
-abbrev pub schedule_told : Told → Schedule
-schedule_told schedule =
-    record { runs = schedule.journal; rest = schedule.rest.now; rest_line = schedule.rest_line }

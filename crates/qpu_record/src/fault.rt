@@ -1,10 +1,5 @@
 //! Why a text is no record.
 
-ghost use Rattle.std.specs.Prelude.{◌≡◌};
-ghost use Rattle.qpu_record.specs.declared.fault.RecordFault.TheVariants.{Memory};
-
-use qpu_word::NoMemory;
-
 /// Why a text is no record. Lines count from 1, in the whole text, and the first failing line is
 /// told.
 #[derive(Clone, Copy, Debug, PartialEq, Eq)]
@@ -16,14 +11,4 @@ pub enum RecordFault {
     Line(u32),
     /// The line is an item, and one of its numbers is out of its range.
     Number(u32),
-    /// Want of memory.
-    Memory,
-}
-
-impl From<NoMemory> for RecordFault {
-    ghost from_gives = { λ _ fault. fault ≡ Memory };
-
-    fn from(_want: NoMemory) -> RecordFault {
-        RecordFault::Memory
-    }
 }

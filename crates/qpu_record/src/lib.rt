@@ -6,6 +6,7 @@
 mod fault;
 mod heading;
 mod item;
+mod items;
 mod laws;
 mod number;
 mod parts;
@@ -13,6 +14,7 @@ mod reading;
 mod writing;
 
 pub use fault::RecordFault;
+pub use items::Items;
 pub use laws::{keeps_steps, reads_the_grammar, records_are_read, spells_one_schedule};
 pub use parts::{MOST_TEXT, RecordParts, Version};
 pub use reading::read_record;

@@ -1,6 +1,6 @@
 //! What a record has.
 
-use qpu_machine::Journal;
+use crate::items::Items;
 
 /// Bytes of the longest text with a record.
 pub const MOST_TEXT: usize = 268_435_456;
@@ -14,17 +14,17 @@ pub enum Version {
     Second,
 }
 
-/// What a text with a record at its front has.
-#[derive(Debug, Drop)]
-pub struct RecordParts {
+/// What a text with a record at its front has, as parts of that text.
+#[derive(Drop)]
+pub struct RecordParts<'a> {
     /// How its items count moves of transfers.
     pub version: Version,
     /// The job's text.
-    pub job: String,
+    pub job: &'a str,
     /// The items of the schedule, neighbours of one actor put together.
-    pub journal: Journal,
+    pub items: Items<'a>,
     /// What stands behind the line `endrecord`.
-    pub rest: String,
+    pub rest: &'a str,
     /// The number of the line with which that begins, from 1.
     pub rest_line: u32,
 }

@@ -1,21 +1,36 @@
-use crate::{MOST_TEXT, RecordFault, RecordParts, Version, read_record};
-use qpu_machine::{Actor, Run};
-use std::alloc::Global;
+use crate::{Items, MOST_TEXT, RecordFault, RecordParts, Version, read_record};
+use qpu_machine::{Actor, Run, Runs};
 use std::test::Fail;
 
-// The texts of these tests are short.
-fn read(alloc: Global, text: &str) -> Result<RecordParts, RecordFault> {
+// What a text with a record has; the texts of these tests are short.
+fn read(text: &str) -> Option<Result<RecordParts<'_>, RecordFault>> {
     if text.len() > MOST_TEXT {
-        return Err(RecordFault::Memory);
+        return None;
     }
-    read_record(alloc, text)
+    Some(read_record(text))
 }
 
-fn fails(alloc: Global, text: &str, fault: RecordFault) -> bool {
-    match read(alloc, text) {
-        Ok(_) => false,
-        Err(told) => told == fault,
+fn parts(text: &str) -> Option<RecordParts<'_>> {
+    read(text)?.ok()
+}
+
+fn fails(text: &str, fault: RecordFault) -> bool {
+    match read(text) {
+        Some(Err(told)) => told == fault,
+        _ => false,
     }
+}
+
+fn counted(items: Items<'_>) -> usize {
+    let mut items = items;
+    let mut count = 0;
+    for _ in 0..MOST_TEXT {
+        if items.next().is_none() {
+            return count;
+        }
+        count += 1;
+    }
+    count
 }
 
 const WHOLE: &str =
@@ -23,10 +38,10 @@ const WHOLE: &str =
 
 #[test]
 fn a_whole_record(rt: HostRuntime) -> Result<(), Fail> {
-    let parts = read(rt.alloc(), WHOLE).ok().ok_or("the text has a record")?;
+    let mut parts = parts(WHOLE).ok_or("the text has a record")?;
     assert!(rt; parts.version == Version::Second);
-    assert!(rt; parts.job.as_str() == "qpujob\n12");
-    assert!(rt; parts.rest.as_str() == "report\nend");
+    assert!(rt; parts.job == "qpujob\n12");
+    assert!(rt; parts.rest == "report\nend");
     assert!(rt; parts.rest_line == 15);
     let runs = [
         (Actor::Exec(0), 1_000_004),
@@ -36,14 +51,15 @@ fn a_whole_record(rt: HostRuntime) -> Result<(), Fail> {
         (Actor::Fetch(5, 0), 2),
         (Actor::Exec(0), 1),
     ];
-    assert!(rt; parts.journal.runs().len() == runs.len());
-    for (run, (actor, count)) in parts.journal.runs().iter().zip(runs.iter()) {
+    for (actor, count) in &runs {
         let expected = Run {
             actor: *actor,
             count: *count,
         };
-        assert!(rt; *run == expected);
+        assert!(rt; parts.items.next() == Some(expected));
     }
+    assert!(rt; parts.items.next() == None);
+    assert!(rt; parts.items.next() == None);
     Ok(())
 }
 
@@ -118,14 +134,12 @@ const ACCEPTED: [(&str, Version, &str, usize, &str, u32); 8] = [
 #[test]
 fn records_are_accepted(rt: HostRuntime) -> Result<(), Fail> {
     for (text, version, job, runs, rest, line) in &ACCEPTED {
-        let parts = read(rt.alloc(), *text)
-            .ok()
-            .ok_or("each text has a record")?;
+        let parts = parts(*text).ok_or("each text has a record")?;
         assert!(rt; parts.version == *version, "{text}");
-        assert!(rt; parts.job.as_str() == *job, "{text}");
-        assert!(rt; parts.journal.runs().len() == *runs, "{text}");
-        assert!(rt; parts.rest.as_str() == *rest, "{text}");
+        assert!(rt; parts.job == *job, "{text}");
+        assert!(rt; parts.rest == *rest, "{text}");
         assert!(rt; parts.rest_line == *line, "{text}");
+        assert!(rt; counted(parts.items) == *runs, "{text}");
     }
     Ok(())
 }
@@ -163,7 +177,7 @@ const VERSIONS: [(&str, RecordFault); 12] = [
 #[test]
 fn versions_are_told(rt: HostRuntime) {
     for (text, fault) in HEADINGS.iter().chain(VERSIONS.iter()) {
-        assert!(rt; fails(rt.alloc(), *text, *fault), "{text}");
+        assert!(rt; fails(*text, *fault), "{text}");
     }
 }
 
@@ -188,7 +202,7 @@ const SIZES: [(&str, RecordFault); 12] = [
 #[test]
 fn sizes_are_told(rt: HostRuntime) {
     for (text, fault) in &SIZES {
-        assert!(rt; fails(rt.alloc(), *text, *fault), "{text}");
+        assert!(rt; fails(*text, *fault), "{text}");
     }
 }
 
@@ -216,7 +230,7 @@ const JOBS: [(&str, RecordFault); 12] = [
 #[test]
 fn jobs_end_in_their_own_line(rt: HostRuntime) {
     for (text, fault) in &JOBS {
-        assert!(rt; fails(rt.alloc(), *text, *fault), "{text}");
+        assert!(rt; fails(*text, *fault), "{text}");
     }
 }
 
@@ -258,7 +272,7 @@ fn items_have_a_form_and_ranges(rt: HostRuntime) -> Result<(), Fail> {
     for (items, fault) in ITEMS.iter().chain(NUMBERS.iter()) {
         let mut text = String::from_str(rt.alloc(), HEAD)?;
         text.push_str(items)?;
-        assert!(rt; fails(rt.alloc(), text.as_str(), *fault), "{items}");
+        assert!(rt; fails(text.as_str(), *fault), "{items}");
     }
     Ok(())
 }
@@ -284,8 +298,8 @@ fn a_record_cut_after_each_byte(rt: HostRuntime) -> Result<(), Fail> {
     for bytes in 0..=CUT.len() {
         let text = CUT.get(..bytes).ok_or("the text is ASCII")?;
         match failing_line(bytes) {
-            None => assert!(rt; bytes == 10 || read(rt.alloc(), text).is_ok(), "{bytes}"),
-            Some(line) => assert!(rt; fails(rt.alloc(), text, RecordFault::Line(line)), "{bytes}"),
+            None => assert!(rt; bytes == 10 || parts(text).is_some(), "{bytes}"),
+            Some(line) => assert!(rt; fails(text, RecordFault::Line(line)), "{bytes}"),
         }
     }
     Ok(())

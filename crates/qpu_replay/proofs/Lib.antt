@@ -1,4 +1,5 @@
 pub mod AnswerLemmas
+pub mod LeftLemmas
 pub mod RowLemmas
 pub mod RunLemmas
 pub mod WidenLemmas

@@ -1,5 +1,5 @@
-//! Taking the steps that a journal spells.
-ghost use Rattle.std.specs.Prelude.{◌≡◌, IfErr, IfSome, IsNone, OnOk, Result, replicate};
+//! Taking the steps that runs spell.
+ghost use Rattle.std.specs.Prelude.{◌≡◌, ◌^◌, ◌<◌, IfErr, IfSome, IsNone, OnOk, Result, length, replicate};
 ghost use Rattle.qpu_machine.specs.declared.conclusion.Ending.{Ending};
 ghost use Rattle.qpu_machine.specs.AtRest.{IsAtRest, RanOutAtLimit};
 ghost use Rattle.qpu_machine.specs.Gains.{IsRun};
@@ -11,7 +11,7 @@ ghost use Rattle.qpu_replay.specs.declared.fault.ReplayFault.{ReplayFault};
 ghost use Rattle.qpu_replay.specs.Replay.{IsFault, Replays, StopsIn, steps_taken};
 
 use crate::fault::ReplayFault;
-use qpu_machine::{Ending, Journal, Machine, Run};
+use qpu_machine::{Ending, Machine, Run, Runs};
 
 /// Takes the steps of a run, in order, up to the first that isn't enabled, and gives that one's
 /// number, counted from 1; none where all were taken.
@@ -29,23 +29,23 @@ pub(crate) fn take_run(machine: &mut Machine, run: &Run) -> Option<u64>
 }
 
 /// Takes the steps of runs, in order, up to the first that isn't enabled.
-fn take_all(machine: &mut Machine, runs: &[Run]) -> Result<(), ReplayFault>
-    ensures ok { OnOk result (After machine.old.state (steps_of runs.now) machine.new.state) }
-    ensures err { IfErr result (λ fault. IsFault After fault machine.old.state runs.now machine.new.state) }
+fn take_all<R: Runs>(machine: &mut Machine, runs: &mut R) -> Result<(), ReplayFault>
+    requires { length (R.left runs.old) < 2 ^ 64 }
+    ensures ok { OnOk result (After machine.old.state (steps_of (R.left runs.old)) machine.new.state) }
+    ensures err { IfErr result (λ fault. IsFault After fault machine.old.state (R.left runs.old) machine.new.state) }
     ensures starts { machine.new.starts ≡ machine.old.starts }
 {
-    for i in 0..runs.len() {
-        if let Some(step) = take_run(machine, &runs[i]) {
-            return Err(ReplayFault::NotEnabled {
-                item: i as u64 + 1,
-                step,
-            });
+    let mut item = 0;
+    while let Some(run) = runs.next() {
+        item += 1;
+        if let Some(step) = take_run(machine, &run) {
+            return Err(ReplayFault::NotEnabled { item, step });
         }
     }
     Ok(())
 }
 
-/// Takes the steps that a journal spells, and says how the machine has come out. The answer is Ok
+/// Takes the steps that runs spell, and says how the machine has come out. The answer is Ok
 /// exactly where they are a complete permitted schedule: each is enabled where it stands, and the
 /// machine is final after the last. `NotEnabled` tells the first step that isn't enabled; the machine
 /// is then the one before that step. `NotFinished` tells that all were taken and that something can
@@ -57,17 +57,19 @@ fn take_all(machine: &mut Machine, runs: &[Run]) -> Result<(), ReplayFault>
 /// each of these in all, and each trace is a path of its program that breaks no rule. Where the answer
 /// is Ok no move is pending, each running processor awaits the mutex or a semaphore, and a processor
 /// ran out exactly where it neither ended nor faulted and has executed the limit.
-pub fn replay(machine: &mut Machine, journal: &Journal) -> Result<Ending, ReplayFault>
-    ensures answer { Replays result machine.old.state journal.now machine.new.state }
-    ensures alone { (answer : Result Ending ReplayFault) (m : MachineState) → Replays answer machine.old.state journal.now m → (answer ≡ result) × (m ≡ machine.new.state) }
-    ensures run { IsRun machine.old.state (steps_taken result journal.now) machine.new.state }
-    ensures opening { IsRunFromOpening machine.old.state (steps_taken result journal.now) }
+pub fn replay<R: Runs + Drop>(machine: &mut Machine, runs: R) -> Result<Ending, ReplayFault>
+    ensures answer { Replays result machine.old.state (R.left runs) machine.new.state }
+    ensures alone { (answer : Result Ending ReplayFault) (m : MachineState) → Replays answer machine.old.state (R.left runs) m → (answer ≡ result) × (m ≡ machine.new.state) }
+    ensures run { IsRun machine.old.state (steps_taken result (R.left runs)) machine.new.state }
+    ensures opening { IsRunFromOpening machine.old.state (steps_taken result (R.left runs)) }
     ensures rests { OnOk result (IsAtRest machine.new.state) }
     ensures ran_out { OnOk result (RanOutAtLimit machine.new.state) }
     ensures starts { machine.new.starts ≡ machine.old.starts }
 {
     machine.keeps();
-    take_all(machine, journal.runs())?;
+    runs.counts();
+    let mut runs = runs;
+    take_all(machine, &mut runs)?;
     match machine.ending() {
         Some(ending) => Ok(ending),
         None => Err(ReplayFault::NotFinished),

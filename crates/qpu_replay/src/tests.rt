@@ -141,7 +141,7 @@ fn journals_of_one_run_have_their_answers(rt: HostRuntime) -> Result<(), Fail> {
         let mut journal = Journal::new(alloc);
         push(&mut journal, case.actor, case.count)?;
         let mut machine = machine_of(alloc, &FOUR)?;
-        let answer = replay(&mut machine, &journal);
+        let answer = replay(&mut machine, journal.iter());
         assert!(rt; answer == case.answer, "{name}: {answer:?}");
         assert!(rt; executed(&machine) == Some(case.executed), "{name}");
     }
@@ -152,7 +152,7 @@ fn journals_of_one_run_have_their_answers(rt: HostRuntime) -> Result<(), Fail> {
 fn a_journal_of_no_steps_moves_nothing(rt: HostRuntime) -> Result<(), Fail> {
     let alloc = rt.alloc();
     let mut machine = machine_of(alloc, &FOUR)?;
-    let answer = replay(&mut machine, &Journal::new(alloc));
+    let answer = replay(&mut machine, Journal::new(alloc).iter());
     assert!(rt; answer == Err(ReplayFault::NotFinished));
     assert!(rt; executed(&machine) == Some(0));
     Ok(())
@@ -194,13 +194,13 @@ fn of_words(alloc: Global, count: u64) -> Result<Journal, Fail>
 fn later_runs_are_counted(rt: HostRuntime) -> Result<(), Fail> {
     let alloc = rt.alloc();
     let mut machine = machine_of(alloc, &STORE)?;
-    let answer = replay(&mut machine, &around_store(alloc, 64)?);
+    let answer = replay(&mut machine, around_store(alloc, 64)?.iter());
     assert!(rt; answer == Ok(Ending::Done), "{answer:?}");
     let mut machine = machine_of(alloc, &STORE)?;
-    let answer = replay(&mut machine, &around_store(alloc, 1)?);
+    let answer = replay(&mut machine, around_store(alloc, 1)?.iter());
     assert!(rt; answer == Err(ReplayFault::NotFinished), "{answer:?}");
     let mut machine = machine_of(alloc, &STORE)?;
-    let answer = replay(&mut machine, &around_store(alloc, 65)?);
+    let answer = replay(&mut machine, around_store(alloc, 65)?.iter());
     assert!(rt;
         answer == Err(ReplayFault::NotEnabled { item: 2, step: 65 }),
         "{answer:?}"
@@ -208,9 +208,11 @@ fn later_runs_are_counted(rt: HostRuntime) -> Result<(), Fail> {
     assert!(rt; executed(&machine) == Some(2));
     let never = of_words(alloc, 5)?;
     let mut machine = machine_of(alloc, &STORE)?;
-    let answer = replay(&mut machine, &never);
+    let answer = replay(&mut machine, never.iter());
     assert!(rt; answer == Err(ReplayFault::NotFinished), "{answer:?}");
-    assert!(rt; replay(&mut machine, &never) == Err(ReplayFault::NotEnabled { item: 1, step: 1 }));
+    assert!(rt;
+        replay(&mut machine, never.iter()) == Err(ReplayFault::NotEnabled { item: 1, step: 1 })
+    );
     Ok(())
 }
 
@@ -236,7 +238,7 @@ fn has_runs(journal: &Journal, runs: &[(Actor, u64)]) -> bool {
 fn a_store_is_widened_to_its_rows(rt: HostRuntime) -> Result<(), Fail> {
     let alloc = rt.alloc();
     let mut machine = machine_of(alloc, &STORE)?;
-    let wide = widen(alloc, &machine, &around_store(alloc, 1)?);
+    let wide = widen(alloc, &machine, around_store(alloc, 1)?.iter());
     let wide = wide.ok().ok_or("the journal is widened")?;
     let runs = [
         (Actor::Exec(0), 2),
@@ -251,15 +253,15 @@ fn a_store_is_widened_to_its_rows(rt: HostRuntime) -> Result<(), Fail> {
     for _ in 0..3 {
         assert!(rt; machine.step(Actor::Store(0)));
     }
-    let answer = widen(alloc, &machine, &of_words(alloc, 3)?).err();
+    let answer = widen(alloc, &machine, of_words(alloc, 3)?.iter()).err();
     assert!(rt;
         answer == Some(WidenFault::Replay(ReplayFault::NotFinished)),
         "{answer:?}"
     );
-    let wide = widen(alloc, &machine, &from_store(alloc)?);
+    let wide = widen(alloc, &machine, from_store(alloc)?.iter());
     let wide = wide.ok().ok_or("the rest is widened")?;
     assert!(rt; has_runs(&wide, &[(Actor::Store(0), 61), (Actor::Exec(0), 3)]));
-    assert!(rt; replay(&mut machine, &wide) == Ok(Ending::Done));
+    assert!(rt; replay(&mut machine, wide.iter()) == Ok(Ending::Done));
     Ok(())
 }
 
@@ -268,10 +270,10 @@ fn a_store_is_widened_to_its_rows(rt: HostRuntime) -> Result<(), Fail> {
 fn a_store_is_widened_once(rt: HostRuntime) -> Result<(), Fail> {
     let alloc = rt.alloc();
     let machine = machine_of(alloc, &STORE)?;
-    let answer = widen(alloc, &machine, &around_store(alloc, 2)?).err();
+    let answer = widen(alloc, &machine, around_store(alloc, 2)?.iter()).err();
     let twice = ReplayFault::NotEnabled { item: 2, step: 2 };
     assert!(rt; answer == Some(WidenFault::Replay(twice)), "{answer:?}");
-    let answer = widen(alloc, &machine, &Journal::new(alloc)).err();
+    let answer = widen(alloc, &machine, Journal::new(alloc).iter()).err();
     assert!(rt;
         answer == Some(WidenFault::Replay(ReplayFault::NotFinished)),
         "{answer:?}"
@@ -290,7 +292,7 @@ fn journals_without_transfers_stay(rt: HostRuntime) -> Result<(), Fail> {
         let mut journal = Journal::new(alloc);
         push(&mut journal, case.actor, case.count)?;
         let machine = machine_of(alloc, &FOUR)?;
-        match (widen(alloc, &machine, &journal), case.answer) {
+        match (widen(alloc, &machine, journal.iter()), case.answer) {
             (Ok(wide), Ok(_)) => assert!(rt;
                 has_runs(&wide, &[(case.actor, case.count)]),
                 "{name}"

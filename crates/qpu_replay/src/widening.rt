@@ -1,5 +1,5 @@
 //! Single steps in place of whole transfers.
-ghost use Rattle.std.specs.Prelude.{◌≡◌, ◌≤◌, ◌∷◌, [], IfErr, IfOk, IfSome, IsNone, List, None, OnOk, Result, replicate};
+ghost use Rattle.std.specs.Prelude.{◌≡◌, ◌^◌, ◌<◌, ◌≤◌, ◌∷◌, [], IfErr, IfOk, IfSome, IsNone, List, None, OnOk, Result, length, replicate};
 ghost use Rattle.qpu_machine.specs.declared.actor.Actor.{Actor};
 ghost use Rattle.qpu_machine.specs.declared.journal.Run.{Run};
 ghost use Rattle.qpu_machine.specs.Gains.{Gained};
@@ -12,7 +12,7 @@ ghost use Rattle.qpu_replay.specs.Widening.{FailsIn, IsSpelled};
 use crate::fault::{ReplayFault, WidenFault};
 use crate::replaying::take_run;
 use qpu_dma::Transfer;
-use qpu_machine::{Actor, Journal, Machine, Run};
+use qpu_machine::{Actor, Journal, Machine, Run, Runs};
 use std::alloc::Global;
 
 /// The rows of a transfer that are still to move; 1 where none is pending.
@@ -80,33 +80,46 @@ fn widen_run(
 
 /// Takes the steps that those of runs stand for, in order, up to the first that has none, and adds
 /// them to a journal.
-fn widen_all(machine: &mut Machine, runs: &[Run], wide: &mut Journal) -> Result<(), WidenFault>
-    requires { IsSpelled wide.old machine.old.state }
-    ensures ok { OnOk result (Gained wide.old wide.new (λ t. Widens machine.old.state (steps_of runs.now) t machine.new.state)) }
-    ensures err { IfErr result (λ fault. FailsBy AfterWhole fault machine.old.state runs.now) }
+fn widen_all<R: Runs>(
+    machine: &mut Machine,
+    runs: &mut R,
+    wide: &mut Journal,
+) -> Result<(), WidenFault>
+    requires spelled { IsSpelled wide.old machine.old.state }
+    requires counts { length (R.left runs.old) < 2 ^ 64 }
+    ensures ok { OnOk result (Gained wide.old wide.new (λ t. Widens machine.old.state (steps_of (R.left runs.old)) t machine.new.state)) }
+    ensures err { IfErr result (λ fault. FailsBy AfterWhole fault machine.old.state (R.left runs.old)) }
 {
-    for i in 0..runs.len() {
-        widen_run(machine, &runs[i], i as u64 + 1, wide)?;
+    let mut item = 0;
+    while let Some(run) = runs.next() {
+        item += 1;
+        widen_run(machine, &run, item, wide)?;
     }
     Ok(())
 }
 
-/// The single steps that a journal stands for in which each step of a load or store moves its whole
+/// The single steps that runs stand for in which each step of a load or store moves its whole
 /// transfer: each of these is replaced by as many as it has rows still to move where it stands, and
 /// stays as it is where none is pending. The answer is Ok exactly where they are a complete
 /// permitted schedule of the machine: each is enabled where it stands, and the machine is final after
-/// the last. `NotEnabled` tells the first step of the journal, by its run and its number in there,
+/// the last. `NotEnabled` tells the first step of the runs, by its run and its number in there,
 /// of which the first single step isn't enabled. `NotFinished` tells that all were taken, and that
 /// something can still move. The machine stays as it is: the steps are taken by a copy. Want of
 /// memory is free.
-pub fn widen(alloc: Global, machine: &Machine, journal: &Journal) -> Result<Journal, WidenFault>
-    ensures answer { WidensTo result machine.now.state journal.now }
-    ensures alone { (answer : Result (List Run) WidenFault) → WidensTo answer machine.now.state journal.now → SaysSame answer result }
+pub fn widen<R: Runs + Drop>(
+    alloc: Global,
+    machine: &Machine,
+    runs: R,
+) -> Result<Journal, WidenFault>
+    ensures answer { WidensTo result machine.now.state (R.left runs) }
+    ensures alone { (answer : Result (List Run) WidenFault) → WidensTo answer machine.now.state (R.left runs) → SaysSame answer result }
 {
     machine.keeps();
+    runs.counts();
     let mut copy = machine.copy(alloc)?;
+    let mut runs = runs;
     let mut wide = Journal::new(alloc);
-    widen_all(&mut copy, journal.runs(), &mut wide)?;
+    widen_all(&mut copy, &mut runs, &mut wide)?;
     match copy.ending() {
         Some(_) => Ok(wide),
         None => Err(WidenFault::Replay(ReplayFault::NotFinished)),

@@ -12,12 +12,11 @@ use Rattle.qpu_job.specs.Plan.{Plan}
 use Rattle.qpu_job.specs.Opening.{memory_of, opening_machine}
 use Rattle.qpu_job.proofs.MayOpenLaw.{read_jobs_may_open}
 use Rattle.qpu_record.specs.declared.fault.RecordFault.{RecordFault}
-use Rattle.qpu_record.specs.declared.fault.RecordFault.TheVariants as record_fault
 use Rattle.qpu_text.specs.Lines.{line_feeds}
 use Rattle.qpu_record.specs.declared.parts.Version.{Version}
 use Rattle.qpu_record.specs.declared.parts.Version.TheVariants.{First, Second}
 use Rattle.qpu_record.specs.Record.{merged, record_text}
-use Rattle.qpu_record.specs.Reading.{Parts, Fails, record_of}
+use Rattle.qpu_record.specs.Reading.{Parts, record_of}
 use Rattle.qpu_report.specs.Report.{report_text}
 use Rattle.qpu_replay.specs.declared.fault.ReplayFault.{ReplayFault}
 use Rattle.qpu_replay.specs.declared.fault.WidenFault.TheVariants.{Replay}
@@ -122,19 +121,19 @@ told_or_not text parts other m n k l i p q first second unlike follows =
     let one = one_end text parts other m n k l p q first second in not_other parts other k l i one.0 one.1 unlike.0 unlike.1 follows
 
 one : (text : List ℕ) (a b : Answer) → RecordAnswer text a → RecordAnswer text b → a ≡ b
-one text a b (no_record e is none) (no_record f is' none') = ap (λ (x : RecordFault). Refused (Record x)) (one_error (record_of text) e f is is')
-one text a b (no_record e is none) (no_start parts why is' refusal) = absurd (not_both (record_of text) parts e is' is)
-one text a b (no_record e is none) (not_taken parts m k f o fails) = absurd (not_both (record_of text) parts e o.is_record is)
-one text a b (no_record e is none) (other_report parts m k i o whole unlike) = absurd (not_both (record_of text) parts e o.is_record is)
-one text a b (no_record e is none) (replayed parts m k o whole follows) = absurd (not_both (record_of text) parts e o.is_record is)
-one text a b (no_start parts why is refusal) (no_record e is' none) = absurd (not_both (record_of text) parts e is is')
+one text a b (no_record e is) (no_record f is') = ap (λ (x : RecordFault). Refused (Record x)) (one_error (record_of text) e f is is')
+one text a b (no_record e is) (no_start parts why is' refusal) = absurd (not_both (record_of text) parts e is' is)
+one text a b (no_record e is) (not_taken parts m k f o fails) = absurd (not_both (record_of text) parts e o.is_record is)
+one text a b (no_record e is) (other_report parts m k i o whole unlike) = absurd (not_both (record_of text) parts e o.is_record is)
+one text a b (no_record e is) (replayed parts m k o whole follows) = absurd (not_both (record_of text) parts e o.is_record is)
+one text a b (no_start parts why is refusal) (no_record e is') = absurd (not_both (record_of text) parts e is is')
 one text a b (no_start parts why is refusal) (no_start other how is' refusal') =
     ap (λ (x : Refusal). Refused x)
     (one_refused other.job why how (subst (λ (p : Parts). JobRefusal p.job why) (one_value (record_of text) parts other is is') refusal) refusal')
 one text a b (no_start parts why is refusal) (not_taken other m k f o fails) = absurd (not_started text other parts m why o is refusal)
 one text a b (no_start parts why is refusal) (other_report other m k i o whole unlike) = absurd (not_started text other parts m why o is refusal)
 one text a b (no_start parts why is refusal) (replayed other m k o whole follows) = absurd (not_started text other parts m why o is refusal)
-one text a b (not_taken parts m k e o fails) (no_record f is none) = absurd (not_both (record_of text) parts f o.is_record is)
+one text a b (not_taken parts m k e o fails) (no_record f is) = absurd (not_both (record_of text) parts f o.is_record is)
 one text a b (not_taken parts m k e o fails) (no_start other why is refusal) = absurd (not_started text parts other m why o is refusal)
 one text a b (not_taken parts m k e o fails) (not_taken other n l f o' fails') =
     ap (λ (x : ReplayFault). Refused (Schedule x)) (one_stop text parts other m n k l e f o o' fails fails')
@@ -142,7 +141,7 @@ one text a b (not_taken parts m k e o fails) (other_report other n l i o' whole 
     absurd (not_stopped text other parts n m l k e o' o whole fails)
 one text a b (not_taken parts m k e o fails) (replayed other n l o' whole follows) =
     absurd (not_stopped text other parts n m l k e o' o whole fails)
-one text a b (other_report parts m k i o whole unlike) (no_record f is none) = absurd (not_both (record_of text) parts f o.is_record is)
+one text a b (other_report parts m k i o whole unlike) (no_record f is) = absurd (not_both (record_of text) parts f o.is_record is)
 one text a b (other_report parts m k i o whole unlike) (no_start other why is refusal) = absurd (not_started text parts other m why o is refusal)
 one text a b (other_report parts m k i o whole unlike) (not_taken other n l f o' fails) =
     absurd (not_stopped text parts other m n k l f o o' whole fails)
@@ -151,7 +150,7 @@ one text a b (other_report parts m k i o whole unlike) (other_report other n l j
     ap (λ (x : ℕ). Refused (Report x)) (one_line parts other k l i j one.0 one.1 unlike.1 unlike'.1)
 one text a b (other_report parts m k i o whole unlike) (replayed other n l o' whole' follows) =
     absurd (told_or_not text parts other m n k l i o o' whole whole' unlike follows)
-one text a b (replayed parts m k o whole follows) (no_record f is none) = absurd (not_both (record_of text) parts f o.is_record is)
+one text a b (replayed parts m k o whole follows) (no_record f is) = absurd (not_both (record_of text) parts f o.is_record is)
 one text a b (replayed parts m k o whole follows) (no_start other why is refusal) = absurd (not_started text parts other m why o is refusal)
 one text a b (replayed parts m k o whole follows) (not_taken other n l f o' fails) =
     absurd (not_stopped text parts other m n k l f o o' whole fails)
@@ -161,7 +160,7 @@ one text a b (replayed parts m k o whole follows) (replayed other n l o' whole' 
     ap (λ (x : MachineState). Reported x) (one_end text parts other m n k l o o' whole whole').1
 
 of_text : (text : List ℕ) (answer : Answer) → RecordAnswer text answer → IsOfText (status_of answer)
-of_text text answer (no_record e is none) = tt
+of_text text answer (no_record e is) = tt
 of_text text answer (no_start parts why is refusal) = refusal_of_text parts.job why refusal
 of_text text answer (not_taken parts m k e o fails) = tt
 of_text text answer (other_report parts m k i o whole unlike) = tt
@@ -180,14 +179,6 @@ pub unlike_is : (parts : Parts) (report : List ℕ) (line : Option ℕ) → (len
     → IsUnlike parts report line
 unlike_is parts report None some is = inr (same_texts parts.rest report parts.rest_line (sym is))
 unlike_is parts report (Some line) some is = (some_rest parts.rest some, sym is)
-
--- a fault that is told is that of the text
-
-pub record_fails_is : {Y : Type 0} (e : RecordFault) (due : Result Y RecordFault) → Fails e due → e ≢ record_fault.Memory → due ≡ Err e
-record_fails_is record_fault.Version due fails none = fails
-record_fails_is (record_fault.Line line) due fails none = fails
-record_fails_is (record_fault.Number line) due fails none = fails
-record_fails_is record_fault.Memory due fails none = absurd (none refl)
 
 -- the single steps of a journal of whole transfers are taken
 

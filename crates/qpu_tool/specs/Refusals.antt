@@ -111,12 +111,11 @@ names_of plan = map (λ program. program.name) plan.programs
 
 -- records
 
--- the line of a record's fault; want of memory has none
+-- the line of a record's fault
 abbrev pub record_line : RecordFault → List ℕ
 record_line record_fault.Version = codes "refused record version\n"
 record_line (record_fault.Line line) = numbered_line (codes "refused record line ") line
 record_line (record_fault.Number line) = numbered_line (codes "refused record number at line ") line
-record_line record_fault.Memory = []
 
 -- the line of a schedule that isn't a complete permitted one
 abbrev pub schedule_line : ReplayFault → List ℕ

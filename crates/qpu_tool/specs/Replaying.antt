@@ -4,7 +4,6 @@ use Rattle.qpu_machine.specs.declared.actor.Actor.{Actor}
 use Rattle.qpu_machine.specs.Machine.{MachineState}
 use Rattle.qpu_machine.specs.Schedule.{After}
 use Rattle.qpu_record.specs.declared.fault.RecordFault.{RecordFault}
-use Rattle.qpu_record.specs.declared.fault.RecordFault.TheVariants as record_fault
 use Rattle.qpu_record.specs.declared.parts.Version.{Version}
 use Rattle.qpu_record.specs.declared.parts.Version.TheVariants.{First, Second}
 use Rattle.qpu_record.specs.Reading.{Parts, record_of}
@@ -51,7 +50,7 @@ pub record OpensRecord (text : List ℕ) (parts : Parts) (m : MachineState) : Ty
 -- step that isn't enabled, by the items and steps of the record itself, or that something can still
 -- move; a report behind it that isn't the machine's; or the machine's report
 pub data RecordAnswer (text : List ℕ) : Answer → Type 0 where
-  no_record : (e : RecordFault) → record_of text ≡ Err e → e ≢ record_fault.Memory → RecordAnswer text (answer.Refused (Record e))
+  no_record : (e : RecordFault) → record_of text ≡ Err e → RecordAnswer text (answer.Refused (Record e))
   no_start : (parts : Parts) (why : Refusal) → record_of text ≡ Ok parts → JobRefusal parts.job why → RecordAnswer text (answer.Refused why)
   not_taken : (parts : Parts) (m n : MachineState) (e : ReplayFault) → OpensRecord text parts m → IsFault (leads_by parts.version) e m parts.runs n
       → RecordAnswer text (answer.Refused (Schedule e))

@@ -186,7 +186,7 @@ pub(crate) fn put_hazard_line<'a, K: Sink>(
     }
 }
 
-/// Writes the line of a record's fault; of want of memory there is none.
+/// Writes the line of a record's fault.
 #[tactic(auto, using(qpu_io::proofs::Outputs::appended_none))]
 pub(crate) fn put_record_line<K: Sink>(fault: RecordFault, sink: &mut K) -> Result<(), SinkFailed>
     ensures { Prints (K.shown sink.old) (K.shown sink.new) (record_line fault) result }
@@ -197,7 +197,6 @@ pub(crate) fn put_record_line<K: Sink>(fault: RecordFault, sink: &mut K) -> Resu
         RecordFault::Number(line) => {
             put_numbered(b"refused record number at line ", u64::from(line), sink)
         }
-        RecordFault::Memory => Ok(()),
     }
 }
 

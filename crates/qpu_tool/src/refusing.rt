@@ -2,12 +2,11 @@
 ghost use Rattle.std.specs.Prelude.{◌≡◌, ◌≢◌, IfOk, None};
 ghost use Rattle.qpu_token.specs.declared.fault.AsmKind.TheVariants as kind;
 ghost use Rattle.qpu_tool.specs.declared.answer.Answer.TheVariants.{Refused};
-ghost use Rattle.qpu_tool.specs.declared.refusal.Refusal.TheVariants.{Asm, Hazard, Record};
+ghost use Rattle.qpu_tool.specs.declared.refusal.Refusal.TheVariants.{Asm, Hazard};
 
 use crate::answer::Answer;
 use crate::refusal::Refusal;
 use qpu_hazard::CheckFault;
-use qpu_record::RecordFault;
 use qpu_token::{AsmFault, AsmKind};
 use qpu_word::NoMemory;
 
@@ -28,15 +27,5 @@ pub(crate) fn hazardous(fault: CheckFault) -> Result<Answer<'static>, NoMemory>
     match fault {
         CheckFault::Memory => Err(NoMemory),
         _ => Ok(Answer::Refused(Refusal::Hazard(None, fault))),
-    }
-}
-
-/// Of a record.
-pub(crate) fn misrecorded(fault: RecordFault) -> Result<Answer<'static>, NoMemory>
-    ensures { IfOk result (λ answer. (answer ≡ Refused (Record fault)) × (fault ≢ RecordFault.Memory)) }
-{
-    match fault {
-        RecordFault::Memory => Err(NoMemory),
-        _ => Ok(Answer::Refused(Refusal::Record(fault))),
     }
 }

@@ -1,8 +1,9 @@
 //! The answer to the text of a record.
-ghost use Rattle.std.specs.Prelude.{◌≡◌, ◌≢◌, ◌≤◌, ◌⊎◌, [], Some, Ok, IfErr, IfOk, IfSome, IsNone, List, length, string_bytes, ℕ};
+ghost use Rattle.std.specs.Prelude.{◌≡◌, ◌≢◌, ◌≤◌, ◌⊎◌, [], Some, Ok, IfErr, IfOk, IfSome, IsNone, List, length, ℕ};
 ghost use Rattle.qpu_machine.specs.Machine.{MachineState};
 ghost use Rattle.qpu_machine.specs.Ending.{IsFinal, ending_of};
-ghost use Rattle.qpu_record.specs.Reading.{Parts, parts_of, record_of};
+ghost use Rattle.qpu_record.specs.Reading.{Parts, record_of};
+ghost use Rattle.qpu_record.specs.Told.{parts_of};
 ghost use Rattle.qpu_machine.specs.Schedule.{After};
 ghost use Rattle.qpu_replay.specs.Replay.{IsComplete};
 ghost use Rattle.qpu_replay.specs.Widened.{AfterWhole, FailsBy};
@@ -17,8 +18,7 @@ use crate::ended::EndedMachine;
 use crate::holding::HoldingSink;
 use crate::opening::opened;
 use crate::refusal::Refusal;
-use crate::refusing::misrecorded;
-use qpu_machine::{Ending, Journal, Machine};
+use qpu_machine::{Ending, Machine, Runs};
 use qpu_record::{RecordParts, Version, read_record};
 use qpu_replay::{WidenFault, replay, widen};
 use qpu_word::NoMemory;
@@ -37,7 +37,11 @@ fn report_of(alloc: Global, end: &EndedMachine) -> Result<HoldingSink, NoMemory>
 
 /// The line in which what stands behind a record isn't the machine's report; none where nothing
 /// stands there.
-fn unlike(alloc: Global, parts: &RecordParts, end: &EndedMachine) -> Result<Option<u64>, NoMemory>
+fn unlike(
+    alloc: Global,
+    parts: &RecordParts<'_>,
+    end: &EndedMachine,
+) -> Result<Option<u64>, NoMemory>
     ensures { IfOk result (IsUnlike (parts_of parts.now) (report_text end.now)) }
 {
     let rest = parts.rest.as_bytes();
@@ -52,7 +56,7 @@ fn unlike(alloc: Global, parts: &RecordParts, end: &EndedMachine) -> Result<Opti
 fn reported(
     alloc: Global,
     text: &str,
-    parts: &RecordParts,
+    parts: &RecordParts<'_>,
     end: EndedMachine,
 ) -> Result<Answer<'static>, NoMemory>
     requires { (m : MachineState) × OpensRecord text.now (parts_of parts.now) m × IsComplete (leads_by (parts_of parts.now).version) m (parts_of parts.now).runs end }
@@ -64,28 +68,28 @@ fn reported(
     }
 }
 
-/// Lets a machine take the steps of a journal.
-fn take_steps(machine: &mut Machine, journal: &Journal) -> Result<Ending, WidenFault>
-    ensures ok { IfOk result (λ ending. IsComplete After machine.old.state journal.now machine.new.state × (ending ≡ ending_of machine.new.state)) }
-    ensures err { IfErr result (λ fault. FailsBy After fault machine.old.state journal.now) }
+/// Lets a machine take the steps of runs.
+fn take_steps<R: Runs + Drop>(machine: &mut Machine, runs: R) -> Result<Ending, WidenFault>
+    ensures ok { IfOk result (λ ending. IsComplete After machine.old.state (R.left runs) machine.new.state × (ending ≡ ending_of machine.new.state)) }
+    ensures err { IfErr result (λ fault. FailsBy After fault machine.old.state (R.left runs)) }
 {
-    match replay(machine, journal) {
+    match replay(machine, runs) {
         Ok(ending) => Ok(ending),
         Err(fault) => Err(WidenFault::Replay(fault)),
     }
 }
 
-/// Lets a machine take the steps that those of a journal of whole transfers stand for.
-fn take_whole_steps(
+/// Lets a machine take the steps that those of runs of whole transfers stand for.
+fn take_whole_steps<R: Runs + Drop>(
     alloc: Global,
     machine: &mut Machine,
-    journal: &Journal,
+    runs: R,
 ) -> Result<Ending, WidenFault>
-    ensures ok { IfOk result (λ ending. IsComplete AfterWhole machine.old.state journal.now machine.new.state × (ending ≡ ending_of machine.new.state)) }
-    ensures err { IfErr result (λ fault. FailsBy AfterWhole fault machine.old.state journal.now) }
+    ensures ok { IfOk result (λ ending. IsComplete AfterWhole machine.old.state (R.left runs) machine.new.state × (ending ≡ ending_of machine.new.state)) }
+    ensures err { IfErr result (λ fault. FailsBy AfterWhole fault machine.old.state (R.left runs)) }
 {
-    let wide = widen(alloc, machine, journal)?;
-    match replay(machine, &wide) {
+    let wide = widen(alloc, machine, runs)?;
+    match replay(machine, wide.iter()) {
         Ok(ending) => Ok(ending),
         Err(_) => unreachable!(),
     }
@@ -95,14 +99,14 @@ fn take_whole_steps(
 fn take_record(
     alloc: Global,
     machine: &mut Machine,
-    parts: &RecordParts,
+    parts: &RecordParts<'_>,
 ) -> Result<Ending, WidenFault>
-    ensures ok { IfOk result (λ ending. IsComplete (leads_by parts.now.version) machine.old.state parts.now.journal machine.new.state × (ending ≡ ending_of machine.new.state)) }
-    ensures err { IfErr result (λ fault. FailsBy (leads_by parts.now.version) fault machine.old.state parts.now.journal) }
+    ensures ok { IfOk result (λ ending. IsComplete (leads_by parts.now.version) machine.old.state parts.now.items machine.new.state × (ending ≡ ending_of machine.new.state)) }
+    ensures err { IfErr result (λ fault. FailsBy (leads_by parts.now.version) fault machine.old.state parts.now.items) }
 {
     match parts.version {
-        Version::First => take_whole_steps(alloc, machine, &parts.journal),
-        Version::Second => take_steps(machine, &parts.journal),
+        Version::First => take_whole_steps(alloc, machine, parts.items.again()),
+        Version::Second => take_steps(machine, parts.items.again()),
     }
 }
 
@@ -120,7 +124,7 @@ fn not_taken(fault: WidenFault) -> Result<Answer<'static>, NoMemory>
 fn replay_on(
     alloc: Global,
     text: &str,
-    parts: &RecordParts,
+    parts: &RecordParts<'_>,
     machine: Machine,
 ) -> Result<Answer<'static>, NoMemory>
     requires { OpensRecord text.now (parts_of parts.now) machine.state }
@@ -137,13 +141,13 @@ fn replay_on(
 fn replay_record(
     alloc: Global,
     text: &str,
-    parts: &RecordParts,
+    parts: &RecordParts<'_>,
 ) -> Result<Answer<'static>, NoMemory>
-    requires most { length (string_bytes parts.now.job) ≤ MOST_RECORD }
+    requires most { length parts.now.job.now ≤ MOST_RECORD }
     requires is_record { record_of text.now ≡ Ok (parts_of parts.now) }
     ensures { IfOk result (RecordAnswer text.now) }
 {
-    match opened(alloc, &parts.job)? {
+    match opened(alloc, parts.job)? {
         Ok(machine) => replay_on(alloc, text, parts, machine),
         Err(refusal) => Ok(Answer::Refused(refusal)),
     }
@@ -154,8 +158,8 @@ pub(crate) fn replay_text(alloc: Global, text: &str) -> Result<Answer<'static>, 
     requires { length text.now ≤ MOST_RECORD }
     ensures { IfOk result (RecordAnswer text.now) }
 {
-    match read_record(alloc, text) {
+    match read_record(text) {
         Ok(parts) => replay_record(alloc, text, &parts),
-        Err(fault) => misrecorded(fault),
+        Err(fault) => Ok(Answer::Refused(Refusal::Record(fault))),
     }
 }

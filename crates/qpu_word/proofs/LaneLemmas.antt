@@ -1,10 +1,9 @@
--- Lanes and masks that a loop fills one by one, and what stands in a lane.
-use Rattle.std.proofs.Common.{◌≡◌, ℕ, zero, suc, ◌+◌, ◌^◌, ◌<◌, ◌≤◌, Bool, true, false, List, length, get_or, refl, ap, ◌∙◌, arith, if◌then◌else◌, replicate}
+-- Lanes that a loop fills one by one, what stands in a lane, and masks of lanes.
+use Rattle.std.proofs.Common.{◌≡◌, ℕ, zero, suc, ◌+◌, ◌<◌, ◌≤◌, Bool, List, length, get_or, refl, ap, ◌∙◌, arith, replicate}
 use Rattle.std.proofs.Math.ListN.{set, length-set}
 use Rattle.std.proofs.lemmas.List.FromFn.{fill_by_all, get_or-map-range_with_len, length-map-range_with_len}
 use Rattle.std.proofs.lemmas.List.{get_or-replicate}
 use Rattle.std.proofs.lemmas.List.Edits.{fill_by_more}
-use Rattle.std.proofs.lemmas.Grind.{pow_more}
 use Rattle.qpu_word.specs.Lanes.{lanes, lane, mask_below, Gives}
 
 -- sixteen lanes of which the first i are those of a function
@@ -40,38 +39,6 @@ lanes_same f g same = filled_all {f = g} {i = 16} (omega arith) (record {
   long = length-lanes f;
   each = λ k low. get_or-lanes f k low ∙ same k low;
 })
-
--- a mask of which the lanes below i are told
-pub record IsMask (test : ℕ → Bool) (m i : ℕ) : Type 0 where
-  pub is : m ≡ mask_below test i
-  pub small : m < 2 ^ i
-
--- no lane is told
-pub mask_none : (test : ℕ → Bool) → IsMask test 0 0
-unfolding mask_below
-mask_none test = record { is = refl; small = omega arith }
-
-mask_step : (test : ℕ → Bool) (m n i : ℕ) (on : Bool) → on ≡ test i → n ≡ m + (if on then 2 ^ i else 0) → m ≡ mask_below test i → n ≡ mask_below test (i + 1)
-unfolding mask_below
-mask_step test m n i on value sum is = let e : i + 1 ≡ suc i = omega arith in rw (e, sum, value, is) refl
-
-mask_small : (m n i : ℕ) (on : Bool) → n ≡ m + (if on then 2 ^ i else 0) → m < 2 ^ i → n < 2 ^ (i + 1)
-mask_small m n i true sum small = omega (arith, pow_more 2 i)
-mask_small m n i false sum small = omega (arith, pow_more 2 i)
-
--- one more lane is told
-pub mask_more : {test : ℕ → Bool} {m n i : ℕ} (on : Bool) → on ≡ test i → n ≡ m + (if on then 2 ^ i else 0) → IsMask test m i → IsMask test n (i + 1)
-mask_more {test} {m} {n} {i} on value sum before = record {
-  is = mask_step test m n i on value sum before.is;
-  small = mask_small m n i on sum before.small;
-}
-
--- all lanes are told
-pub mask_all : {test : ℕ → Bool} {m i : ℕ} → 16 ≤ i → i ≤ 16 → IsMask test m i → m ≡ mask_below test 16
-mask_all {test} {m} {i} high low before = let e : i ≡ 16 = omega arith in rw e at before.is
-
--- a mask from the first lane to the last
-pub ruleset masks = (mask_none, mask_more, mask_all)
 
 -- the lanes of a function give it
 pub gives_lanes : {values : List ℕ} (f : ℕ → ℕ) → values ≡ lanes f → Gives values f

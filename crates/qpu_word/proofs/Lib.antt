@@ -1,5 +1,7 @@
 pub mod KeptLemmas
 pub mod LaneLemmas
+pub mod VectorLemmas
+pub mod ByteLemmas
 pub mod ProfileLemmas
 pub mod StepLemmas
 pub mod AloneLemmas

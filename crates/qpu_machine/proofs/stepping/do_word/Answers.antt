@@ -1,37 +1,39 @@
-use Rattle.std.proofs.Common.{◌≡◌, ◌<◌, true, length, sym, ap, subst, ◌∙◌}
+use Rattle.std.proofs.Common.{◌≡◌, sym, ap, ◌∙◌}
 use Rattle.std.specs.Prelude.{slice_index}
-use Rattle.qpu_word.specs.declared.word.Word.{Word}
 use Rattle.qpu_word.specs.Words.{fields_of, is_local}
 use Rattle.qpu_word.specs.Instruction.{is_link_point}
-use Rattle.qpu_shared.specs.Exec.{HasRoom}
-use Rattle.qpu_shared.specs.Instruction.{pending_of}
 use Rattle.qpu_shared.proofs.LocalLemmas.{outcome_local}
-use Rattle.qpu_machine.proofs.WordLemmas.{place_in, room_on_path, shared_straight}
+use Rattle.qpu_flow.specs.declared.decoded.Decoded.{Decoded}
+use Rattle.qpu_machine.proofs.WordLemmas.{place_in}
 use Rattle.qpu_machine.proofs.stepping.do_word.Goals as goal
 
-pub unreachable-requires : goal.unreachable-requires
-unreachable-requires c =
-    c.in_default.ensures (rw c.place.ensures (place_in c.args.program.now c.args.p.now _ c.words-words.ensures.clean c.requires.on_path))
+pub decoded-word-requires : goal.decoded-word-requires
+decoded-word-requires c = rw c.place.ensures (place_in c.args.program.now c.args.p.now _ c.words-words.ensures.clean c.requires.on_path)
 
-pub exec-requires-clause-straight : goal.exec-requires-clause-straight
-exec-requires-clause-straight c =
-    let is : c.in-Some.word.0 ≡ slice_index c.args.program.now c.args.p.now.place =
-    ap (λ (w : Word). w.0) c.in-Some.ensures.1 ∙ ap (slice_index c.args.program.now) c.place.ensures in
-    let low : c.args.p.now.place < length c.args.program.now = place_in c.args.program.now c.args.p.now _ c.words-words.ensures.clean c.requires.on_path in
-    shared_straight c.in-Some.word.0 (rw is (c.words-words.ensures.inside c.args.p.now.place low)) (rw (← c.fields-f.ensures) (sym c.is_local.ensures ∙ c.if-is_local.false))
+pub do_local-requires-clause-place : goal.do_local-requires-clause-place
+do_local-requires-clause-place c = place_in c.args.program.now c.args.p.now _ c.words-words.ensures.clean c.requires.on_path
 
-pub exec-requires-clause-room : goal.exec-requires-clause-room
-exec-requires-clause-room c =
-    let is : c.in-Some.word.0 ≡ slice_index c.args.program.now c.args.p.now.place =
-    ap (λ (w : Word). w.0) c.in-Some.ensures.1 ∙ ap (slice_index c.args.program.now) c.place.ensures in
-    subst (λ w. HasRoom (fields_of w) (pending_of c.args.shared.now c.args.q)) (sym is)
-    (room_on_path c.args.program.now c.args.p.now (pending_of c.args.shared.now c.args.q) c.words-words.ensures.clean c.requires.on_path)
+pub do_local-requires-clause-profile : goal.do_local-requires-clause-profile
+do_local-requires-clause-profile c =
+    c.words-words.ensures.inside c.args.p.now.place (place_in c.args.program.now c.args.p.now _ c.words-words.ensures.clean c.requires.on_path)
 
-pub returns-then-is_local : goal.returns-then-is_local
-returns-then-is_local c =
-    let is : c.in-Some.word.0 ≡ slice_index c.args.program.now c.args.p.now.place =
-    ap (λ (w : Word). w.0) c.in-Some.ensures.1 ∙ ap (slice_index c.args.program.now) c.place.ensures in
-    let local : is_local (fields_of (slice_index c.args.program.now c.args.p.now.place)) ≡ true =
-    rw (← is, ← c.fields-f.ensures) (sym c.is_local.ensures ∙ c.if-is_local.true) in
-    rw (← c.requires.number, outcome_local (is_link_point c.args.program.now) (slice_index c.args.program.now c.args.p.now.place) c.args.p.now c.args.shared.now local)
+pub do_local-requires-clause-fields : goal.do_local-requires-clause-fields
+do_local-requires-clause-fields c =
+    ap (λ (d : Decoded). d.fields) c.decoded-word.ensures ∙ ap (λ at. fields_of (slice_index c.args.program.now at)) c.place.ensures
+
+pub do_local-requires-clause-local : goal.do_local-requires-clause-local
+do_local-requires-clause-local c =
+    ap (λ (d : Decoded). is_local d.fields) c.decoded-word.ensures ∙ sym (ap (λ (d : Decoded). d.local) c.decoded-word.ensures) ∙ c.if-word.true
+
+pub do_shared-requires-clause-shared : goal.do_shared-requires-clause-shared
+do_shared-requires-clause-shared c =
+    let is : c.decoded-word.result.now.local ≡ is_local (fields_of (slice_index c.args.program.now c.args.p.now.place)) =
+    ap (λ (d : Decoded). d.local) c.decoded-word.ensures ∙ ap (λ at. is_local (fields_of (slice_index c.args.program.now at))) c.place.ensures in
+    sym is ∙ c.if-word.false
+
+pub returns-then-word : goal.returns-then-word
+returns-then-word c =
+    let is : c.decoded-word.result.now.local ≡ is_local (fields_of (slice_index c.args.program.now c.args.p.now.place)) =
+    ap (λ (d : Decoded). d.local) c.decoded-word.ensures ∙ ap (λ at. is_local (fields_of (slice_index c.args.program.now at))) c.place.ensures in
+    rw (← c.requires.number, outcome_local (is_link_point c.args.program.now) (slice_index c.args.program.now c.args.p.now.place) c.args.p.now c.args.shared.now (sym is ∙ c.if-word.true))
     (c.do_local.ensures c.args.shared.now)

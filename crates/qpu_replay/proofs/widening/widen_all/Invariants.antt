@@ -1,11 +1,15 @@
--- The runs before the index are taken.
-use Rattle.std.proofs.Common.{◌≡◌, take, length}
+-- The runs that were given are taken; the others are left.
+use Rattle.std.proofs.Common.{◌≡◌, ◌≤◌, take, drop, length}
 use Rattle.qpu_machine.specs.Journal.{steps_of}
 use Rattle.qpu_replay.proofs.WidenLemmas.{Widened}
 use Rattle.qpu_replay.proofs.widening.widen_all.Given as goal
 
-abbrev pub invariant-loop-i : goal.invariant-loop-i
-invariant-loop-i l = record {
-  gained : Widened l.fn.wide l.wide l.fn.machine.state (steps_of (take l.i l.runs)) l.machine.state;
-  last : l.i-end ≡ length l.runs;
+abbrev pub invariant-loop-run : goal.invariant-loop-run
+invariant-loop-run g l = record {
+  within : l.item ≤ length (g.R.Runs.left l.fn.runs);
+  left : g.R.Runs.left l.runs ≡ drop l.item (g.R.Runs.left l.fn.runs);
+  gained : Widened l.fn.wide l.wide l.fn.machine.state (steps_of (take l.item (g.R.Runs.left l.fn.runs))) l.machine.state;
 }
+
+abbrev pub decreases-loop-run : goal.decreases-loop-run
+decreases-loop-run g l = length (g.R.Runs.left l.runs)

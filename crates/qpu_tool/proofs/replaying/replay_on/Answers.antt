@@ -1,4 +1,4 @@
-use Rattle.qpu_record.specs.Reading.{parts_of}
+use Rattle.qpu_record.specs.Told.{parts_of}
 use Rattle.qpu_tool.proofs.replaying.replay_on.Goals as goal
 
 pub returns : goal.returns

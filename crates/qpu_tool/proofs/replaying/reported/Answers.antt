@@ -1,5 +1,5 @@
 -- The report is the machine's, or stands behind the record as another.
-use Rattle.qpu_record.specs.Reading.{parts_of}
+use Rattle.qpu_record.specs.Told.{parts_of}
 use Rattle.qpu_tool.specs.Replaying.{other_report, replayed}
 use Rattle.qpu_tool.proofs.replaying.reported.Goals as goal
 

@@ -1,6 +1,6 @@
 -- A text that doesn't differ from the report is the report.
 use Rattle.std.proofs.Common.{sym, ◌∙◌}
-use Rattle.qpu_record.specs.Reading.{parts_of}
+use Rattle.qpu_record.specs.Told.{parts_of}
 use Rattle.qpu_report.specs.Report.{report_text}
 use Rattle.qpu_tool.proofs.ReplayLemmas.{unlike_is}
 use Rattle.qpu_tool.proofs.replaying.unlike.Goals as goal

@@ -7,10 +7,10 @@ use Rattle.qpu_hazard.proofs.StepLemmas.{by_ahead, by_jump, without_links, with_
 use Rattle.qpu_hazard.proofs.search.Search.visit_all.Goals as goal
 
 pub next_from-next-requires-clause-slots : goal.next_from-next-requires-clause-slots
-next_from-next-requires-clause-slots c = (fits_known _ _ c.requires.known).slots
+next_from-next-requires-clause-slots c = (fits_known _ _ _ c.requires.known).slots
 
 pub next_from-next-requires-clause-last : goal.next_from-next-requires-clause-last
-next_from-next-requires-clause-last c = (fits_known _ _ c.requires.known).last
+next_from-next-requires-clause-last c = (fits_known _ _ _ c.requires.known).last
 
 pub visit_ahead-requires-clause-follows : goal.visit_ahead-requires-clause-follows
 visit_ahead-requires-clause-follows c = λ a asks low.
@@ -22,11 +22,11 @@ visit_jump-requires-clause-follows c = λ a asks low.
 
 pub returns-then-not-next-clause-settled : goal.returns-then-not-next-clause-settled
 returns-then-not-next-clause-settled c =
-    without_links _ _ _ _ _ c.next_from-next.ensures c.in_ok-visit_jump.ensures.grows c.in_ok-visit_ahead.ensures.settled
+    without_links _ _ _ _ _ _ c.next_from-next.ensures c.in_ok-visit_jump.ensures.grows c.in_ok-visit_ahead.ensures.settled
     c.in_ok-visit_jump.ensures.settled (not_true _ c.if-not-next.true)
 
 pub returns-clause-settled : goal.returns-clause-settled
 returns-clause-settled c =
     on_ok_with c.visit_links.result (on_ok_both _ _ c.visit_links.result c.visit_links.ensures.grows c.visit_links.ensures.settled) (λ done.
-    with_links _ _ _ _ _ _ c.next_from-next.ensures c.in_ok-visit_jump.ensures.grows done.0 c.in_ok-visit_ahead.ensures.settled
+    with_links _ _ _ _ _ _ _ c.next_from-next.ensures c.in_ok-visit_jump.ensures.grows done.0 c.in_ok-visit_ahead.ensures.settled
     c.in_ok-visit_jump.ensures.settled done.1)
