@@ -2,22 +2,28 @@
 """Measures the program on growing inputs, and prints a table.
 
     (cd crates/qpu_cli && rt run < /dev/null)    # builds crates/qpu_cli/out/qpu_cli
-    python3 bench/bench.py
+    python3 bench/bench.py [--only WORD] [PROGRAM [BEFORE]]
 
-Each row is one run of the program: what it read, its processor time, the time for each item, and its
-largest memory as a multiple of its input. It stands outside the gate.
+Each row is one input: what the program read, its processor time with its output into a file (the least
+of three runs), the time for each item, and its largest memory as a multiple of its input. PROGRAM is
+another build of the program. With BEFORE, a second build, each row also has that one's time and memory
+and the first's time as a part of its; the runs of both alternate. It stands outside the gate.
 """
 
+import argparse
 import os
 import subprocess
 import sys
 import tempfile
 
-PROGRAM = os.path.join(os.path.dirname(__file__), "..", "crates", "qpu_cli", "out", "qpu_cli")
+BUILT = os.path.join(os.path.dirname(__file__), "..", "crates", "qpu_cli", "out", "qpu_cli")
 
 MEBIBYTE = 1 << 20
+RUNS = 3
 
 WORDS = 4096
+
+RUN = ["run", "-w", "0"]
 
 
 def assembly(size):
@@ -67,6 +73,20 @@ def vectors_job(turns):
     lines += [f"ldi r0, {turns}", "ldi vw_setup, 0x1a00", ":loop ldi vr_setup, 0x101a00", "mov vpm, r0"]
     lines += ["mov r2, vpm", "sub.setf r0, r0, 1", "brr.anynz -, :loop", "nop", "nop", "nop"]
     lines += ["nop; thrend", "nop", "nop", "endprogram", "start 0 a 0"]
+    return "\n".join(lines) + "\n"
+
+
+def shared_job(turns):
+    """Twelve processors that each store a row, load one, look a vector up and read one, each turn."""
+    lines = ["qpujob 1", "memory 4096", "limit 1000000", "program a"]
+    lines += [f"ldi r0, {turns}", "mov r1, qpu_num", "shl r2, r1, 7"]
+    lines += ["ldi ra1, 0x1a00", "ldi ra2, 0x101a00", "ldi ra3, 2 << 30 | 1 << 23 | 16 << 16 | 1 << 14"]
+    lines += ["ldi ra4, 1 << 31 | 3 << 24 | 1 << 20 | 1 << 12"]
+    lines += [":loop add vw_setup, ra1, r1", "mov vpm, r0", "mov vw_setup, ra3", "mov vw_addr, r2"]
+    lines += ["mov t0s, r2", "mov -, vpm_st_wait", "mov vr_setup, ra4", "mov vr_addr, r2", "nop; ldtmu0"]
+    lines += ["mov r3, r4", "mov -, vpm_ld_wait", "add vr_setup, ra2, r1", "sub.setf r0, r0, 1", "mov r3, vpm"]
+    lines += ["brr.anynz -, :loop", "nop", "nop", "nop", "nop; thrend", "nop", "nop", "endprogram"]
+    lines += [f"start {q} a 0" for q in range(12)]
     return "\n".join(lines) + "\n"
 
 
@@ -125,62 +145,116 @@ def joined_ways(branches):
     return ways(branches, ladder(), "mov unif_addr, r0")
 
 
-def measure(words, text):
-    """Status, seconds of processor time and kibibytes of one run."""
-    with tempfile.NamedTemporaryFile("w", suffix=".txt", delete=False) as file:
-        file.write(text)
-    script = (
-        "import resource, subprocess, sys\n"
-        "status = subprocess.run(sys.argv[2:], stdin=open(sys.argv[1]), stdout=subprocess.DEVNULL).returncode\n"
-        "used = resource.getrusage(resource.RUSAGE_CHILDREN)\n"
-        "print(status, used.ru_utime + used.ru_stime, used.ru_maxrss)\n"
-    )
-    out = subprocess.run(
-        [sys.executable, "-c", script, file.name, PROGRAM, *words], capture_output=True, text=True, check=True
-    ).stdout.split()
-    os.unlink(file.name)
+MEASURED = """
+import resource, subprocess, sys
+answered = subprocess.run(sys.argv[3:], stdin=open(sys.argv[1]), stdout=open(sys.argv[2], "w"))
+used = resource.getrusage(resource.RUSAGE_CHILDREN)
+print(answered.returncode, used.ru_utime + used.ru_stime, used.ru_maxrss)
+"""
+
+
+def measure(program, words, read, written):
+    """Status, seconds of processor time and kibibytes of one run, from a file into a file."""
+    command = [sys.executable, "-c", MEASURED, read, written, program, *words]
+    out = subprocess.run(command, capture_output=True, text=True, check=True).stdout.split()
     return int(out[0]), float(out[1]), int(out[2])
 
 
-def row(name, words, text, items, unit):
-    status, seconds, memory = measure(words, text)
-    size = max(len(text), 1)
-    print(
-        f"{name:34} {size / MEBIBYTE:8.2f} MiB  status {status:2}  {seconds:7.3f} s"
-        f"  {seconds / max(items, 1) * 1e9:9.1f} ns/{unit:12} {memory * 1024 / size:7.1f} x"
-    )
+class Bench:
+    """Builds of the program, and the rows of which to take only some."""
+
+    def __init__(self, programs, only):
+        self.programs = programs
+        self.only = only
+
+    def row(self, name, words, text, items, unit):
+        """Measures an input, and prints its row."""
+        if self.only not in name:
+            return
+        with tempfile.TemporaryDirectory() as folder:
+            read, written = os.path.join(folder, "in.txt"), os.path.join(folder, "out.txt")
+            with open(read, "w") as file:
+                file.write(text)
+            runs = [[measure(program, words, read, written) for program in self.programs] for _ in range(RUNS)]
+        each = [min(of_one, key=lambda run: run[1]) for of_one in zip(*runs)]
+        status, seconds, memory = each[0]
+        size = max(len(text), 1)
+        line = (
+            f"{name:34} {size / MEBIBYTE:8.2f} MiB  status {status:2}  {seconds:7.3f} s"
+            f"  {seconds / max(items, 1) * 1e9:9.1f} ns/{unit:12} {memory * 1024 / size:7.1f} x"
+        )
+        for old_status, old_seconds, old_memory in each[1:]:
+            line += f"   before: status {old_status:2}  {old_seconds:7.3f} s {old_memory * 1024 / size:7.1f} x"
+            line += f"   {seconds / max(old_seconds, 1e-9):5.3f} of it"
+        print(line, flush=True)
+
+    def record(self, words, text):
+        """The record that a run of the program writes."""
+        run = subprocess.run([self.programs[0], *words], input=text, capture_output=True, text=True, check=True)
+        return run.stdout[: run.stdout.index("endrecord\n")] + "endrecord\n"
+
+
+def texts(bench):
+    """Assembly texts and words."""
+    for mebibytes in (1, 2, 4, 8):
+        text = assembly(mebibytes * MEBIBYTE)
+        bench.row("asm, comments to 65,536 lines", ["asm"], text, len(text), "byte")
+    for count in (131_072, 262_144, 524_288, 1_048_576):
+        bench.row("asm, one line of tokens", ["asm"], tokens(count), count, "token")
+    for count in (51_200, 102_400, 204_800, 409_600):
+        bench.row("dis, a word in each line", ["dis"], words(count), count, "word")
+
+
+def runs(bench):
+    """Runs of jobs."""
+    for turns in (25_000, 50_000, 100_000, 199_999):
+        bench.row("run -w 0, a loop on 12 processors", RUN, loop_job(turns), 60 * turns, "instruction")
+    for turns in (5_000, 10_000, 20_000, 40_000):
+        bench.row("run -w 0, DMA, look-ups and VPM", RUN, shared_job(turns), turns, "turn of 12")
+    for turns in (12_500, 25_000, 50_000, 100_000):
+        bench.row("run -w 0, loads of 16 rows", RUN, loads_job(turns), turns, "load")
+    for turns in (12_500, 25_000, 50_000, 100_000):
+        bench.row("run -w 0, stores of 16 rows", RUN, stores_job(turns), turns, "store")
+    for turns in (12_500, 25_000, 50_000, 100_000):
+        bench.row("run -w 0, vectors of words", RUN, vectors_job(turns), 2 * turns, "vector")
+
+
+def replays(bench):
+    """Replays of records."""
+    for turns in (25_000, 50_000, 100_000, 199_999):
+        bench.row("replay, a stretch an item", ["replay"], record_of_stretches(turns), 60 * turns, "instruction")
+    for turns in (22_500, 45_000, 90_000, 180_000):
+        bench.row("replay, one step an item", ["replay"], record_of_steps(turns), 60 * turns, "item")
+    for turns in (25_000, 50_000, 100_000, 199_999):
+        bench.row("replay of a version 1 record", ["replay"], record_of_stretches(turns, 1), 60 * turns, "instruction")
+    for turns in (5_000, 10_000, 20_000, 40_000):
+        record = bench.record(RUN, shared_job(turns))
+        bench.row("replay, DMA, look-ups and VPM", ["replay"], record, turns, "turn of 12")
+
+
+def checks(bench):
+    """Programs to judge."""
+    for count in (512, 1_024, 2_048, 4_096):
+        bench.row("check, a straight program", ["check"], program(count), count, "word")
+    for count in (125, 250, 500, 1_000):
+        bench.row("check, register branches", ["check"], ways(count), count * count, "way")
+    for count in (125, 250, 500, 1_000):
+        bench.row("check, the same behind a ladder", ["check"], joined_ways(count), count * count, "way")
 
 
 def main():
-    if not os.path.exists(PROGRAM):
-        sys.exit("build the program first: (cd crates/qpu_cli && rt run < /dev/null)")
-    for mebibytes in (1, 2, 4, 8):
-        text = assembly(mebibytes * MEBIBYTE)
-        row("asm, comments to 65,536 lines", ["asm"], text, len(text), "byte")
-    for count in (131_072, 262_144, 524_288, 1_048_576):
-        row("asm, one line of tokens", ["asm"], tokens(count), count, "token")
-    for turns in (25_000, 50_000, 100_000, 199_999):
-        row("run -w 0, a loop on 12 processors", ["run", "-w", "0"], loop_job(turns), 60 * turns, "instruction")
-    for turns in (25_000, 50_000, 100_000, 199_999):
-        row("replay of its record", ["replay"], record_of_stretches(turns), 60 * turns, "instruction")
-    for turns in (22_500, 45_000, 90_000, 180_000):
-        row("replay, one step an item", ["replay"], record_of_steps(turns), 60 * turns, "item")
-    for turns in (25_000, 50_000, 100_000, 199_999):
-        row("replay of a version 1 record", ["replay"], record_of_stretches(turns, 1), 60 * turns, "instruction")
-    for turns in (12_500, 25_000, 50_000, 100_000):
-        row("run -w 0, loads of 16 rows", ["run", "-w", "0"], loads_job(turns), turns, "load")
-    for turns in (12_500, 25_000, 50_000, 100_000):
-        row("run -w 0, stores of 16 rows", ["run", "-w", "0"], stores_job(turns), turns, "store")
-    for turns in (12_500, 25_000, 50_000, 100_000):
-        row("run -w 0, vectors of words", ["run", "-w", "0"], vectors_job(turns), 2 * turns, "vector")
-    for count in (51_200, 102_400, 204_800, 409_600):
-        row("dis, a word in each line", ["dis"], words(count), count, "word")
-    for count in (512, 1_024, 2_048, 4_096):
-        row("check, a straight program", ["check"], program(count), count, "word")
-    for count in (125, 250, 500, 1_000):
-        row("check, register branches", ["check"], ways(count), count * count, "way")
-    for count in (125, 250, 500, 1_000):
-        row("check, the same behind a ladder", ["check"], joined_ways(count), count * count, "way")
+    wanted = argparse.ArgumentParser()
+    wanted.add_argument("--only", default="", metavar="WORD")
+    wanted.add_argument("programs", nargs="*", default=[BUILT])
+    given = wanted.parse_args()
+    for built in given.programs:
+        if not os.path.exists(built):
+            sys.exit("build the program first: (cd crates/qpu_cli && rt run < /dev/null)")
+    bench = Bench(given.programs, given.only)
+    texts(bench)
+    runs(bench)
+    replays(bench)
+    checks(bench)
 
 
 if __name__ == "__main__":

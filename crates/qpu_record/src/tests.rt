@@ -23,14 +23,12 @@ fn fails(text: &str, fault: RecordFault) -> bool {
 
 fn counted(items: Items<'_>) -> usize {
     let mut items = items;
-    let mut count = 0;
-    for _ in 0..MOST_TEXT {
+    for count in 0..MOST_TEXT {
         if items.next().is_none() {
             return count;
         }
-        count += 1;
     }
-    count
+    MOST_TEXT
 }
 
 const WHOLE: &str =
