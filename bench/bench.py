@@ -49,6 +49,17 @@ def loop_job(turns):
     return "\n".join(lines) + "\n"
 
 
+def units_job(turns):
+    """Twelve processors, each of which takes 22 instructions a turn, sixteen of them of both units."""
+    body = ["add ra1, r0, r1; mul24 r2, r1, r3", "sub r1, rb1, r2; v8adds rb2, r0, r2"]
+    body += ["shl r3, r1, 3; v8min r2, r2, ra2", "xor.setf rb3, r3, ra1; mul24 ra2, r1, r2"]
+    lines = ["qpujob 1", "memory 16", "limit 1000000", "program a", f"ldi ra3, {turns}", "mov r1, qpu_num"]
+    lines += ["mov r0, r1", ":loop nop", *body * 4, "sub.setf ra3, ra3, 1", "brr.anynz -, :loop"]
+    lines += ["nop", "nop", "nop", "nop; thrend", "nop", "nop", "endprogram"]
+    lines += [f"start {q} a 0" for q in range(12)]
+    return "\n".join(lines) + "\n"
+
+
 def transfers_job(turns, setup, start, wait):
     """One processor that starts a transfer and waits for it, seven instructions a turn."""
     lines = ["qpujob 1", "memory 256", "limit 1000000", "program a"]
@@ -210,6 +221,8 @@ def runs(bench):
     for turns in (25_000, 50_000, 100_000, 199_999):
         bench.row("run -w 0, a loop on 12 processors", RUN, loop_job(turns), 60 * turns, "instruction")
     for turns in (5_000, 10_000, 20_000, 40_000):
+        bench.row("run -w 0, both units on 12", RUN, units_job(turns), 264 * turns, "instruction")
+    for turns in (5_000, 10_000, 20_000, 40_000):
         bench.row("run -w 0, DMA, look-ups and VPM", RUN, shared_job(turns), turns, "turn of 12")
     for turns in (12_500, 25_000, 50_000, 100_000):
         bench.row("run -w 0, loads of 16 rows", RUN, loads_job(turns), turns, "load")
@@ -250,7 +263,7 @@ def main():
     for built in given.programs:
         if not os.path.exists(built):
             sys.exit("build the program first: (cd crates/qpu_cli && rt run < /dev/null)")
-    bench = Bench(given.programs, given.only)
+    bench = Bench([os.path.abspath(built) for built in given.programs], given.only)
     texts(bench)
     runs(bench)
     replays(bench)
