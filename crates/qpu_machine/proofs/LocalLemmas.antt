@@ -1,10 +1,9 @@
 -- Local steps of one processor: they keep its path, and are the steps of a machine.
 use Rattle.std.proofs.Common.{◌≡◌, ◌<◌, ◌≤◌, ◌+◌, ℕ, suc, zero, Bool, true, false, List, [], length, replicate, Option, Some, None, Result, Ok, Err, true≢false, refl, sym, subst, ap, ◌∙◌, arith}
-use Rattle.std.specs.Prelude.{◌&&◌, if◌then◌else◌, nat_lt, slice_index, slice_set, IsSomeAnd}
+use Rattle.std.specs.Prelude.{◌&&◌, if◌then◌else◌, slice_index, slice_set, IsSomeAnd}
 use Rattle.std.proofs.lemmas.List.{get_or-set_same, get_or-replicate, set-get_or, set-set}
 use Rattle.std.proofs.lemmas.Bool.Decides.{nat_tests}
 use Rattle.qpu_word.specs.declared.fault.FaultKind.{FaultKind}
-use Rattle.qpu_word.specs.declared.state.Halt.TheVariants.{Going}
 use Rattle.qpu_word.specs.Words.{fields_of, is_local}
 use Rattle.qpu_word.specs.Processor.{ProcessorState}
 use Rattle.qpu_word.specs.Instruction.{local_result, is_link_point, halted, then_after, done, branch_fails, after_setups, after_uniform_to, outs_of, no_ins}
@@ -142,9 +141,9 @@ none_left_after {words} {limit} {p} {n} {r} steps most = by_test (is_local_next 
     by_test true is = let runs = runs_local words limit r is in absurd (spent limit n p.executed r runs (counted steps runs) most)
 
 -- whether there is a local step
-pub next_is : (words : List ℕ) (limit : ℕ) (p : ProcessorState) → p.halt ≡ Going → p.executed < limit → is_local (fields_of (slice_index words p.place)) ≡ true
+pub next_is : (words : List ℕ) (limit : ℕ) (p : ProcessorState) → is_running limit p ≡ true → is_local (fields_of (slice_index words p.place)) ≡ true
     → is_local_next words limit p ≡ true
-next_is words limit p going less local = let test : nat_lt p.executed limit ≡ true = grind (arith, nat_tests) in rw (going, test) local
+next_is words limit p runs local = rw runs local
 
 -- a call that does a local word
 pub took_local : (words : List ℕ) (limit : ℕ) (p after : ProcessorState) (did : Did) (h : SharedState) → is_local_next words limit p ≡ true
