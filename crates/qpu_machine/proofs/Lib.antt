@@ -20,3 +20,4 @@ pub mod TrailLemmas
 pub mod RunLaw
 pub mod AtRestLaw
 pub mod OpeningLaw
+pub mod InPlaceLemmas

@@ -1,10 +1,9 @@
 -- Local steps of one processor: they keep its path, and are the steps of a machine.
 use Rattle.std.proofs.Common.{◌≡◌, ◌<◌, ◌≤◌, ◌+◌, ℕ, suc, zero, Bool, true, false, List, [], length, replicate, Option, Some, None, Result, Ok, Err, true≢false, refl, sym, subst, ap, ◌∙◌, arith}
-use Rattle.std.specs.Prelude.{◌&&◌, if◌then◌else◌, nat_lt, slice_index, slice_set, IsSomeAnd}
+use Rattle.std.specs.Prelude.{◌&&◌, if◌then◌else◌, slice_index, slice_set, IsSomeAnd}
 use Rattle.std.proofs.lemmas.List.{get_or-set_same, get_or-replicate, set-get_or, set-set}
 use Rattle.std.proofs.lemmas.Bool.Decides.{nat_tests}
 use Rattle.qpu_word.specs.declared.fault.FaultKind.{FaultKind}
-use Rattle.qpu_word.specs.declared.state.Halt.TheVariants.{Going}
 use Rattle.qpu_word.specs.Words.{fields_of, is_local}
 use Rattle.qpu_word.specs.Processor.{ProcessorState}
 use Rattle.qpu_word.specs.Instruction.{local_result, is_link_point, halted, then_after, done, branch_fails, after_setups, after_uniform_to, outs_of, no_ins}
@@ -30,13 +29,10 @@ use Rattle.qpu_machine.specs.Local.{is_local_next, or_halted, local_after, Local
 use Rattle.qpu_machine.specs.Serial.{has_local_step}
 use Rattle.qpu_machine.proofs.SoundLemmas.{going_running, left_true}
 use Rattle.qpu_machine.proofs.KeptStep.{keeps_by_word}
-use Rattle.qpu_machine.proofs.RunLemmas.{Ran, begun, one_more as one_more_ran, ran_after, ran_stops}
+use Rattle.qpu_machine.proofs.RunLemmas.{Ran, begun, one_more as one_more_ran, ran_stops}
 use Rattle.qpu_machine.specs.Sound.{IsSoundMachine}
 use Rattle.qpu_machine.specs.Serial.{Stretch}
 use Rattle.qpu_machine.proofs.ScheduleLemmas.{there_low}
-use Rattle.qpu_machine.proofs.BoundLemmas.{steps_bounded}
-use Rattle.qpu_machine.specs.Bound.{steps_left}
-use Rattle.std.proofs.lemmas.List.{length-replicate}
 
 -- the word of a processor that has a local step
 pub runs_local : (words : List ℕ) (limit : ℕ) (p : ProcessorState) → is_local_next words limit p ≡ true → is_running limit p ≡ true
@@ -142,9 +138,9 @@ none_left_after {words} {limit} {p} {n} {r} steps most = by_test (is_local_next 
     by_test true is = let runs = runs_local words limit r is in absurd (spent limit n p.executed r runs (counted steps runs) most)
 
 -- whether there is a local step
-pub next_is : (words : List ℕ) (limit : ℕ) (p : ProcessorState) → p.halt ≡ Going → p.executed < limit → is_local (fields_of (slice_index words p.place)) ≡ true
+pub next_is : (words : List ℕ) (limit : ℕ) (p : ProcessorState) → is_running limit p ≡ true → is_local (fields_of (slice_index words p.place)) ≡ true
     → is_local_next words limit p ≡ true
-next_is words limit p going less local = let test : nat_lt p.executed limit ≡ true = grind (arith, nat_tests) in rw (going, test) local
+next_is words limit p runs local = rw runs local
 
 -- a call that does a local word
 pub took_local : (words : List ℕ) (limit : ℕ) (p after : ProcessorState) (did : Did) (h : SharedState) → is_local_next words limit p ≡ true
@@ -229,24 +225,7 @@ stretch_own m q r n sound own stops =
     let at : processor_of (with_both m q r m.shared) q ≡ Some r = get_or-set_same m.processors q (Some r) None (there_low m q o.0 sound o.1) in
     ran_stops (ran_own m q r n sound own) (local_has_none (with_both m q r m.shared) q r at stops)
 
--- how many they are at most
-pub few_local : (m : MachineState) (q : ℕ) (p : ProcessorState) (n : ℕ) (r : ProcessorState) → IsSoundMachine m → processor_of m q ≡ Some p → LocalSteps (words_of m q) m.limit p n r
-    → n ≤ steps_left m
-few_local m q p n r sound there steps =
-    let bound = steps_bounded sound (ran_after (ran_local m q p n r (there_low m q p sound there) there steps)) in
-    let long = length-replicate n (Exec q) in
-    omega (arith, bound, long)
-
--- a processor that isn't there, or takes none, has none
+-- a processor that isn't there has none
 pub none_local : (m : MachineState) (q : ℕ) → processor_of m q ≡ None → has_local_step m q ≡ false
 unfolding after_step
 none_local m q absent = rw absent refl
-
-zero_same : {words : List ℕ} {limit : ℕ} {p : ProcessorState} {n : ℕ} {r : ProcessorState} → LocalSteps words limit p n r → n ≡ 0 → r ≡ p
-zero_same none is_0 = refl
-zero_same (one_more before next is) is_0 = absurd (omega (arith, is_0))
-
-pub zero_local : (m : MachineState) (q : ℕ) (r : ProcessorState) (n : ℕ) → IsOwnAfter m q r n → n ≡ 0 → is_local_next (words_of m q) m.limit r ≡ false → has_local_step m q ≡ false
-zero_local m q r n own is_0 stops =
-    let o = own_before m q r n own in
-    local_has_none m q o.0 o.1 (subst (λ x. is_local_next (words_of m q) m.limit x ≡ false) (zero_same o.2 is_0) stops)

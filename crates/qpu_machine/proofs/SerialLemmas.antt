@@ -1,6 +1,6 @@
 -- The parts of a serial schedule are schedules, and go on at their end.
-use Rattle.std.proofs.Common.{◌≡◌, ◌<◌, ◌≤◌, ◌+◌, ℕ, Bool, true, false, List, [], ◌∷◌, ◌++◌, length, replicate, Option, Some, None, refl, sym, subst, ap, ◌∙◌, arith, append-nil, append_assoc}
-use Rattle.std.specs.Prelude.{is_some, if◌then◌else◌, ◌⊎◌, Result, Ok, Err, OnOk, OnErr}
+use Rattle.std.proofs.Common.{◌≡◌, ◌<◌, ◌≤◌, ◌+◌, ℕ, Bool, true, false, List, [], ◌∷◌, ◌++◌, length, replicate, None, refl, sym, subst, ap, ◌∙◌, arith, append-nil, append_assoc}
+use Rattle.std.specs.Prelude.{if◌then◌else◌, ◌⊎◌, Result, Ok, Err, OnOk, OnErr}
 use Rattle.std.proofs.Common.{inl, inr, ◌≢◌}
 use Rattle.std.proofs.lemmas.Bool.{cases_eq}
 use Rattle.std.proofs.lemmas.List.{length-append, length-replicate, take_more}
@@ -16,8 +16,6 @@ use Rattle.qpu_machine.specs.Serial.{Stretch, stops, goes, Tried, rests, moves, 
 use Rattle.qpu_machine.specs.Bound.{steps_left}
 use Rattle.qpu_machine.specs.Ending.{IsFinal}
 use Rattle.qpu_machine.specs.Sound.{IsSoundMachine}
-use Rattle.qpu_machine.specs.Took.{Took}
-use Rattle.qpu_machine.specs.Views.{Started}
 use Rattle.qpu_machine.proofs.BoundLemmas.{steps_bounded}
 use Rattle.qpu_machine.proofs.EndingLemmas.{final_of}
 use Rattle.qpu_machine.proofs.JournalLemmas.{spells_more}
@@ -132,10 +130,6 @@ pub room_after : (before after : List Run) (m n : MachineState) (s : List Actor)
     → steps_in after + steps_left n ≤ steps_in before + steps_left m
 room_after before after m n s sound taken spells =
     let count = gained_count before after s spells in let bound = steps_bounded sound taken in omega (arith, count, bound)
-
-pub took_some : (took : Bool) (due : Option MachineState) (m n : Started) → is_some due ≡ true → Took took due m n → (due ≡ Some n.state) × (n.starts ≡ m.starts)
-took_some true due m n some took = took
-took_some false due m n some took = let none = took.0 in let off = ap (λ (o : Option MachineState). is_some o) none in absurd (cc)
 
 -- a round as far as it has come: what is left of it makes it whole
 pub record RoundSoFar (m : MachineState) (q : ℕ) (s : List Actor) (n : MachineState) : Type 0 where

@@ -17,3 +17,4 @@ pub mod Gains
 pub mod Opening
 pub mod TracePaths
 pub mod AtRest
+pub mod RunList

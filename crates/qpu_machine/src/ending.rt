@@ -10,6 +10,7 @@ ghost use Rattle.qpu_machine.specs.Ending.{IsFinal, has_faulted, runs, has_run_o
 use crate::actor::Actor;
 use crate::conclusion::Ending;
 use crate::machine::Machine;
+use crate::stepping::is_running;
 use qpu_local::{Halt, Processor};
 
 /// Whether a processor was started and faulted.
@@ -28,7 +29,7 @@ fn runs(limit: u32, processor: &Option<Processor>) -> bool
     ensures { result ≡ runs limit processor.now }
 {
     match processor {
-        Some(processor) => processor.halt() == Halt::Going && processor.executed() < limit,
+        Some(processor) => is_running(processor, limit),
         None => false,
     }
 }

@@ -1,9 +1,9 @@
 //! What a machine did, as runs of one actor's steps.
-ghost use Rattle.std.specs.Prelude.{◌≡◌, ◌+◌, ◌^◌, ◌<◌, ◌≤◌, ◌++◌, ◌∷◌, [], IsOk, OnOk, OnErr};
-ghost use Rattle.std.specs.Bool.{OnTrue, OnFalse};
+ghost use Rattle.std.specs.Prelude.{◌≡◌, ◌+◌, ◌^◌, ◌<◌, ◌≤◌, [], IsOk, OnOk, OnErr};
 ghost use Rattle.qpu_machine.specs.Journal.{IsMerged, pushed, last_count};
 
 use crate::actor::Actor;
+use crate::run_list::RunList;
 use qpu_word::NoMemory;
 use std::alloc::Global;
 use std::marker::Model;
@@ -21,19 +21,16 @@ pub struct Run {
 /// least one step. Contracts see the list of runs.
 #[derive(Debug, Drop)]
 pub struct Journal {
-    runs: Vec<Run>,
+    pub(crate) list: RunList,
 }
 
 impl Model for Journal {
     ghost use Rattle.std.specs.Prelude.{List};
     ghost use Rattle.qpu_machine.specs.declared.journal.Run.{Run};
-    ghost use Rattle.qpu_machine.specs.Journal.{IsMerged};
 
     ghost Value = { List Run };
 
-    ghost view = { λ journal. journal.runs.items };
-
-    ghost invariant = { λ journal. IsMerged journal.runs.items };
+    ghost view = { λ journal. journal.list.runs };
 }
 
 impl Journal {
@@ -42,7 +39,7 @@ impl Journal {
         ensures { result ≡ [] }
     {
         Journal {
-            runs: Vec::new(alloc),
+            list: RunList::new(alloc),
         }
     }
 
@@ -51,26 +48,7 @@ impl Journal {
         ensures runs { result.now ≡ self.now }
         ensures merged { IsMerged self.now }
     {
-        &self.runs
-    }
-
-    /// Lets the last run count on, where it is the actor's.
-    fn count_on(&mut self, actor: Actor, count: u64) -> bool
-        requires some { 1 ≤ count }
-        requires fits { last_count self.old actor + count < 2 ^ 64 }
-        ensures on { OnTrue result (self.new ≡ pushed self.old actor count) }
-        ensures same { OnFalse result (self.new ≡ self.old) }
-        ensures apart { OnFalse result (last_count self.old actor ≡ 0) }
-        ensures one_more { OnFalse result (self.old ++ (record { actor = actor; count = count }) ∷ [] ≡ pushed self.old actor count) }
-    {
-        let Some(last) = self.runs.last_mut() else {
-            return false;
-        };
-        if last.actor != actor {
-            return false;
-        }
-        last.count += count;
-        true
+        self.list.runs()
     }
 
     /// Adds more steps of an actor, at least 1. The last run counts on where it is the actor's,
@@ -83,12 +61,6 @@ impl Journal {
         ensures counts_on { 0 < last_count self.old actor → IsOk result }
         ensures err { OnErr result (self.new ≡ self.old) }
     {
-        if self.count_on(actor, count) {
-            return Ok(());
-        }
-        match self.runs.push(Run { actor, count }) {
-            Ok(()) => Ok(()),
-            Err(_) => Err(NoMemory),
-        }
+        self.list.push(actor, count)
     }
 }

@@ -15,6 +15,7 @@ mod laws;
 mod machine;
 mod opening;
 mod putting;
+mod run_list;
 mod runs;
 mod serial;
 mod start;

@@ -1,12 +1,11 @@
 //! The serial order.
-ghost use Rattle.std.specs.Prelude.{◌≡◌, ◌≤◌, ◌<◌, ◌+◌, ◌^◌, ◌⊎◌, false, IfSome, IfOk, IsNone, OnOk, OnErr, None};
-ghost use Rattle.qpu_machine.specs.Machine.{processor_of, words_of};
+ghost use Rattle.std.specs.Prelude.{◌≡◌, ◌≤◌, ◌<◌, ◌+◌, ◌^◌, ◌⊎◌, replicate, IfOk, OnOk, OnErr};
+ghost use Rattle.qpu_machine.specs.declared.actor.Actor.TheVariants.{Exec};
 ghost use Rattle.qpu_machine.specs.Schedule.{After};
 ghost use Rattle.qpu_machine.specs.Ending.{IsFinal, ending_of};
 ghost use Rattle.qpu_machine.specs.AtRest.{IsAtRest, RanOutAtLimit};
 ghost use Rattle.qpu_machine.specs.Journal.{steps_in};
 ghost use Rattle.qpu_machine.specs.Serial.{Tried, InTurn, Turned, tries_of, Stretch, Round, SerialSchedule};
-ghost use Rattle.qpu_machine.specs.Local.{IsOwnAfter, is_local_next};
 ghost use Rattle.qpu_machine.specs.Bound.{steps_left};
 ghost use Rattle.qpu_machine.specs.Gains.{Gained, IsRun};
 ghost use Rattle.qpu_machine.specs.Opening.{IsRunFromOpening};
@@ -15,19 +14,10 @@ use crate::actor::Actor;
 use crate::conclusion::Ending;
 use crate::journal::Journal;
 use crate::machine::{Machine, PROCESSORS};
+use crate::run_list::RunList;
 use crate::stepping::program_at;
 use crate::stretching::stretch;
-use qpu_local::Processor;
-use qpu_word::NoMemory;
-
-/// A processor after local steps of its own, up to where none is left.
-#[derive(Drop)]
-struct Stretched {
-    /// The processor.
-    processor: Processor,
-    /// How many steps.
-    steps: u64,
-}
+use qpu_word::{NoMemory, code};
 
 /// What a processor tries after its local words.
 fn tries(q: u32) -> [Actor; 5]
@@ -43,65 +33,63 @@ fn tries(q: u32) -> [Actor; 5]
 }
 
 impl Machine {
-    /// Processor q after its local words, which the machine doesn't take.
-    fn stretched(&self, q: u32) -> Option<Stretched>
-        ensures own { IfSome result (λ x. IsOwnAfter self.now.state q x.processor x.steps) }
-        ensures stops { IfSome result (λ x. is_local_next (words_of self.now.state q) self.now.state.limit x.processor ≡ false) }
-        ensures few { IfSome result (λ x. x.steps ≤ steps_left self.now.state) }
-        ensures none { IsNone result → processor_of self.now.state q ≡ None }
-    {
-        let mut processor = match self.processors.get(q as usize) {
-            Some(Some(processor)) => *processor,
-            _ => return None,
-        };
-        let program = program_at(&self.programs, self.program_of[q as usize]);
-        let steps = stretch(&mut processor, program, self.limit);
-        Some(Stretched { processor, steps })
-    }
-
-    /// Takes the local words of processor q.
-    fn run_local(&mut self, q: u32, journal: &mut Journal) -> Result<(), NoMemory>
-        requires { steps_in journal.old + steps_left self.old.state < 2 ^ 64 }
-        ensures ok { OnOk result (Gained journal.old journal.new (λ s. Stretch q self.old.state s self.new.state)) }
-        ensures err { OnErr result (Gained journal.old journal.new (λ s. After self.old.state s self.new.state)) }
-        ensures room { steps_in journal.new + steps_left self.new.state ≤ steps_in journal.old + steps_left self.old.state }
+    /// Takes the local words of processor q, and gives how many steps these are.
+    fn stretch_own(&mut self, q: u32) -> u64
+        ensures stretch { Stretch q self.old.state (replicate result (Exec q)) self.new.state }
         ensures starts { self.new.starts ≡ self.old.starts }
     {
         self.keeps();
-        let Some(after) = self.stretched(q) else {
-            return Ok(());
+        if q >= code::PROCESSORS {
+            return 0;
+        }
+        let Some(processor) = &mut self.processors[q as usize] else {
+            return 0;
         };
-        if after.steps == 0 {
+        let program = program_at(&self.programs, self.program_of[q as usize]);
+        stretch(processor, program, self.limit)
+    }
+
+    /// Takes the local words of processor q.
+    fn run_local(&mut self, q: u32, journal: &mut RunList) -> Result<(), NoMemory>
+        requires { steps_in journal.old.runs + steps_left self.old.state < 2 ^ 64 }
+        ensures ok { OnOk result (Gained journal.old.runs journal.new.runs (λ s. Stretch q self.old.state s self.new.state)) }
+        ensures err { OnErr result (Gained journal.old.runs journal.new.runs (λ s. After self.old.state s self.new.state)) }
+        ensures room { steps_in journal.new.runs + steps_left self.new.state ≤ steps_in journal.old.runs + steps_left self.old.state }
+        ensures starts { self.new.starts ≡ self.old.starts }
+    {
+        self.keeps();
+        journal.make_room()?;
+        let steps = self.stretch_own(q);
+        if steps == 0 {
             return Ok(());
         }
-        journal.push(Actor::Exec(q), after.steps)?;
-        self.put_back(q, after.processor, after.steps);
+        journal.add(Actor::Exec(q), steps);
         Ok(())
     }
 
     /// Takes one step of an actor, where it has one.
-    fn try_step(&mut self, actor: Actor, journal: &mut Journal) -> Result<(), NoMemory>
-        requires { steps_in journal.old + steps_left self.old.state < 2 ^ 64 }
-        ensures ok { OnOk result (Gained journal.old journal.new (λ s. Tried actor self.old.state s self.new.state)) }
-        ensures err { OnErr result (Gained journal.old journal.new (λ s. After self.old.state s self.new.state)) }
-        ensures room { steps_in journal.new + steps_left self.new.state ≤ steps_in journal.old + steps_left self.old.state }
+    fn try_step(&mut self, actor: Actor, journal: &mut RunList) -> Result<(), NoMemory>
+        requires { steps_in journal.old.runs + steps_left self.old.state < 2 ^ 64 }
+        ensures ok { OnOk result (Gained journal.old.runs journal.new.runs (λ s. Tried actor self.old.state s self.new.state)) }
+        ensures err { OnErr result (Gained journal.old.runs journal.new.runs (λ s. After self.old.state s self.new.state)) }
+        ensures room { steps_in journal.new.runs + steps_left self.new.state ≤ steps_in journal.old.runs + steps_left self.old.state }
         ensures starts { self.new.starts ≡ self.old.starts }
     {
         self.keeps();
-        if !self.enabled(actor) {
+        journal.make_room()?;
+        if !self.step(actor) {
             return Ok(());
         }
-        journal.push(actor, 1)?;
-        let _took = self.step(actor);
+        journal.add(actor, 1);
         Ok(())
     }
 
     /// Takes one step of each thing that processor q tries, where it has one.
-    fn run_tries(&mut self, q: u32, journal: &mut Journal) -> Result<(), NoMemory>
-        requires { steps_in journal.old + steps_left self.old.state < 2 ^ 64 }
-        ensures ok { OnOk result (Gained journal.old journal.new (λ s. InTurn (tries_of q) self.old.state s self.new.state)) }
-        ensures err { OnErr result (Gained journal.old journal.new (λ s. After self.old.state s self.new.state)) }
-        ensures room { steps_in journal.new + steps_left self.new.state ≤ steps_in journal.old + steps_left self.old.state }
+    fn run_tries(&mut self, q: u32, journal: &mut RunList) -> Result<(), NoMemory>
+        requires { steps_in journal.old.runs + steps_left self.old.state < 2 ^ 64 }
+        ensures ok { OnOk result (Gained journal.old.runs journal.new.runs (λ s. InTurn (tries_of q) self.old.state s self.new.state)) }
+        ensures err { OnErr result (Gained journal.old.runs journal.new.runs (λ s. After self.old.state s self.new.state)) }
+        ensures room { steps_in journal.new.runs + steps_left self.new.state ≤ steps_in journal.old.runs + steps_left self.old.state }
         ensures starts { self.new.starts ≡ self.old.starts }
     {
         let actors = tries(q);
@@ -112,11 +100,11 @@ impl Machine {
     }
 
     /// What processor q does in a round.
-    fn turn(&mut self, q: u32, journal: &mut Journal) -> Result<(), NoMemory>
-        requires { steps_in journal.old + steps_left self.old.state < 2 ^ 64 }
-        ensures ok { OnOk result (Gained journal.old journal.new (λ s. Turned q self.old.state s self.new.state)) }
-        ensures err { OnErr result (Gained journal.old journal.new (λ s. After self.old.state s self.new.state)) }
-        ensures room { steps_in journal.new + steps_left self.new.state ≤ steps_in journal.old + steps_left self.old.state }
+    fn turn(&mut self, q: u32, journal: &mut RunList) -> Result<(), NoMemory>
+        requires { steps_in journal.old.runs + steps_left self.old.state < 2 ^ 64 }
+        ensures ok { OnOk result (Gained journal.old.runs journal.new.runs (λ s. Turned q self.old.state s self.new.state)) }
+        ensures err { OnErr result (Gained journal.old.runs journal.new.runs (λ s. After self.old.state s self.new.state)) }
+        ensures room { steps_in journal.new.runs + steps_left self.new.state ≤ steps_in journal.old.runs + steps_left self.old.state }
         ensures starts { self.new.starts ≡ self.old.starts }
     {
         self.run_local(q, journal)?;
@@ -124,11 +112,11 @@ impl Machine {
     }
 
     /// One round: each processor in turn. Where the machine isn't final it takes a step.
-    fn round(&mut self, journal: &mut Journal) -> Result<(), NoMemory>
-        requires { steps_in journal.old + steps_left self.old.state < 2 ^ 64 }
-        ensures ok { OnOk result (Gained journal.old journal.new (λ s. Round 0 self.old.state s self.new.state)) }
-        ensures err { OnErr result (Gained journal.old journal.new (λ s. After self.old.state s self.new.state)) }
-        ensures room { steps_in journal.new + steps_left self.new.state ≤ steps_in journal.old + steps_left self.old.state }
+    fn round(&mut self, journal: &mut RunList) -> Result<(), NoMemory>
+        requires { steps_in journal.old.runs + steps_left self.old.state < 2 ^ 64 }
+        ensures ok { OnOk result (Gained journal.old.runs journal.new.runs (λ s. Round 0 self.old.state s self.new.state)) }
+        ensures err { OnErr result (Gained journal.old.runs journal.new.runs (λ s. After self.old.state s self.new.state)) }
+        ensures room { steps_in journal.new.runs + steps_left self.new.state ≤ steps_in journal.old.runs + steps_left self.old.state }
         ensures moves { OnOk result (IsFinal self.old.state ⊎ (steps_left self.new.state < steps_left self.old.state)) }
         ensures starts { self.new.starts ≡ self.old.starts }
     {
@@ -167,7 +155,7 @@ impl Machine {
             if let Some(ending) = self.ending() {
                 return Ok(ending);
             }
-            self.round(journal)?;
+            self.round(&mut journal.list)?;
         }
     }
 }

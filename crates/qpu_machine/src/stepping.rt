@@ -12,9 +12,16 @@ ghost use Rattle.qpu_machine.specs.Machine.{MachineState, processor_of, words_of
 ghost use Rattle.qpu_machine.specs.Took.{TookWord};
 
 use qpu_hazard::{Checked, Programs};
-use qpu_local::Processor;
+use qpu_local::{Halt, Processor};
 use qpu_shared::{Did, Shared};
 use qpu_word::{Fields, Program};
+
+/// Whether a processor is running: it goes on, and has executed less than a limit.
+pub(crate) fn is_running(processor: &Processor, limit: u32) -> bool
+    ensures { result ≡ is_running limit processor.now }
+{
+    processor.halt() == Halt::Going && processor.executed() < limit
+}
 
 /// Does the local word at a processor's place, whose fields these are.
 pub(crate) fn do_local(p: &mut Processor, program: &Checked, f: &Fields) -> Did

@@ -3,9 +3,9 @@ ghost use Rattle.std.specs.Prelude.{◌≡◌, ◌≤◌, false};
 ghost use Rattle.qpu_machine.specs.Kept.{IsKeptAlone};
 ghost use Rattle.qpu_machine.specs.Local.{LocalSteps, TookLocal, is_local_next};
 
-use crate::stepping::do_local;
+use crate::stepping::{do_local, is_running};
 use qpu_hazard::Checked;
-use qpu_local::{Halt, Processor};
+use qpu_local::Processor;
 use qpu_word::Program;
 
 /// Does the local word at the place of a processor, where it has a local step under a limit. Else
@@ -15,7 +15,7 @@ fn step_alone(processor: &mut Processor, program: &Checked, limit: u32) -> bool
     requires kept { IsKeptAlone program.now processor.old }
     ensures { TookLocal result program.now limit processor.old processor.new }
 {
-    if processor.halt() != Halt::Going || processor.executed() >= limit {
+    if !is_running(processor, limit) {
         return false;
     }
     let _words = program.words();

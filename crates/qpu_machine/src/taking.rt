@@ -9,26 +9,26 @@ ghost use Rattle.qpu_machine.specs.Took.{Took};
 
 use crate::actor::Actor;
 use crate::machine::Machine;
-use crate::stepping::{program_at, take_word};
-use qpu_local::{Halt, Processor};
+use crate::stepping::{is_running, program_at, take_word};
+use qpu_local::Processor;
 use qpu_shared::Cause;
-use qpu_word::Program;
+use qpu_word::{Program, code};
 
 impl Machine {
     /// Processor q, where it is running: it goes on, and has executed less than the limit.
     #[tactic(auto, unfolding(crate::specs::Machine::after_step, qpu_shared::specs::Instruction::instruction))]
-    fn running(&self, q: u32) -> Option<Processor>
-        ensures there { IfSome result (λ p. processor_of self.now.state q ≡ Some p) }
-        ensures runs { IfSome result (λ p. is_running self.now.state.limit p ≡ true) }
+    fn running(&self, q: u32) -> Option<&Processor>
+        ensures there { IfSome result (λ p. processor_of self.now.state q ≡ Some p.now) }
+        ensures runs { IfSome result (λ p. is_running self.now.state.limit p.now ≡ true) }
         ensures low { IfSome result (λ p. q < 12) }
         ensures none { IsNone result → after_step self.now.state (Exec q) ≡ None }
         ensures nothing { IsNone result → awaited self.now.state q ≡ None }
     {
         let processor = match self.processors.get(q as usize) {
-            Some(Some(processor)) => *processor,
+            Some(Some(processor)) => processor,
             _ => return None,
         };
-        if processor.halt() != Halt::Going || processor.executed() >= self.limit {
+        if !is_running(processor, self.limit) {
             return None;
         }
         Some(processor)
@@ -38,16 +38,18 @@ impl Machine {
     fn step_exec(&mut self, q: u32) -> bool
         ensures { Took result (after_step self.old.state (Exec q)) self.old self.new }
     {
-        let Some(processor) = self.running(q) else {
-            return false;
-        };
-        let mut after = processor;
-        let program = program_at(&self.programs, self.program_of[q as usize]);
-        if !take_word(&mut after, program, &mut self.shared, q) {
+        self.keeps();
+        if q >= code::PROCESSORS {
             return false;
         }
-        self.processors[q as usize] = Some(after);
-        true
+        let Some(processor) = &mut self.processors[q as usize] else {
+            return false;
+        };
+        if !is_running(processor, self.limit) {
+            return false;
+        }
+        let program = program_at(&self.programs, self.program_of[q as usize]);
+        take_word(processor, program, &mut self.shared, q)
     }
 
     /// The move of the next row of processor q's pending load, where there is one.
@@ -110,7 +112,7 @@ impl Machine {
         let Some(processor) = self.running(q) else {
             return None;
         };
-        self.cause_at(q, &processor)
+        self.cause_at(q, processor)
     }
 
     /// Whether processor q has an instruction to take: it is running, and its word doesn't await.
@@ -120,7 +122,7 @@ impl Machine {
         let Some(processor) = self.running(q) else {
             return false;
         };
-        self.cause_at(q, &processor).is_none()
+        self.cause_at(q, processor).is_none()
     }
 
     /// Whether an actor has a step.

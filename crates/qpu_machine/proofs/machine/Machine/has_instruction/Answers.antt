@@ -9,4 +9,4 @@ pub returns : goal.returns
 returns c =
     none_of_not (is_some c.cause_at.result) c.is_none.result c.is_none.ensures
     ∙ ap (λ (cause : Option Cause). is_none cause) c.cause_at.ensures.cause
-    ∙ enabled_running c.args.self.now.state c.args.q c.in-Some.processor c.in-Some.ensures.there c.in-Some.ensures.runs c.cause_at.ensures.number
+    ∙ enabled_running c.args.self.now.state c.args.q c.in-Some.processor.now c.in-Some.ensures.there c.in-Some.ensures.runs c.cause_at.ensures.number

@@ -1,7 +1,8 @@
 use Rattle.std.proofs.Common.{◌≡◌, ◌≢◌, ◌-◌, rules, arith, length, vec_len, suc, ap}
 use Rattle.qpu_machine.specs.Journal.{last_count}
+use Rattle.qpu_machine.specs.RunList.{RunListState}
 use Rattle.qpu_machine.proofs.JournalLemmas.{counts_on, counts_last, first_run, one_more, none_first, none_last, stays_merged}
-use Rattle.qpu_machine.proofs.journal.Journal.count_on.Goals as goal
+use Rattle.qpu_machine.proofs.run_list.RunList.count_on.Goals as goal
 
 pub overflow_add-last : goal.overflow_add-last
 overflow_add-last c =
@@ -10,7 +11,7 @@ overflow_add-last c =
     let counted : last_count c.self.inside.runs.items c.args.actor ≡ c.in-Some.last.now.count =
     counts_last c.self.inside.runs.items (vec_len c.self.inside.runs - 1) c.in-Some.last.now c.args.actor long (c.in-Some.ensures.value) same in
     let fits = c.requires.fits in
-    let told : last_count c.self.inside.runs.items c.args.actor ≡ last_count c.args.self.now c.args.actor = ap (λ xs. last_count xs c.args.actor) c.self.view_is in
+    let told : last_count c.self.inside.runs.items c.args.actor ≡ last_count c.args.self.now.runs c.args.actor = ap (λ (x : RunListState). last_count x.runs c.args.actor) c.self.view_is in
     omega (arith, fits, told, counted)
 
 pub returns-in_default-clause-one_more : goal.returns-in_default-clause-one_more
