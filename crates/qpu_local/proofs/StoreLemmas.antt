@@ -1,11 +1,9 @@
--- Values that go through as they are: whole ones under the condition that always holds, and a
--- rotation by none.
-use Rattle.std.proofs.Common.{◌≡◌, ◌<◌, ℕ, List, length, refl, arith}
-use Rattle.std.specs.Prelude.{◌+◌, ◌-◌, ◌%◌}
+-- Whole values go through as they are under the condition that always holds.
+use Rattle.std.proofs.Common.{◌≡◌, ℕ, List, length, refl, arith}
 use Rattle.qpu_word.specs.declared.state.Flags.{Flags}
 use Rattle.qpu_word.specs.Lanes.{lane}
 use Rattle.qpu_word.specs.Flags.{lane_test}
-use Rattle.qpu_word.specs.Writing.{packed, left, rotated}
+use Rattle.qpu_word.specs.Writing.{packed, left}
 use Rattle.qpu_word.proofs.LaneLemmas.{filled_all}
 
 -- a lane of values that go through whole
@@ -18,13 +16,3 @@ pub whole_left : (flags : Flags) (old values : List ℕ) → length values ≡ 1
 unfolding left lane_test packed
 whole_left flags old values long =
     filled_all {f = λ i. lane values i} {xs = values} {i = 16} (omega arith) (record { long = long; each = λ k low. refl })
-
-same_lane : (k : ℕ) → k < 16 → (k + 16 - 0) % 16 ≡ k
-same_lane k low = omega arith
-
--- a rotation by none
-pub not_rotated : (values : List ℕ) → length values ≡ 16 → values ≡ rotated 0 values
-unfolding rotated
-not_rotated values long =
-    filled_all {f = λ i. lane values ((i + 16 - 0) % 16)} {xs = values} {i = 16} (omega arith)
-    (record { long = long; each = λ k low. rw (same_lane k low) refl })

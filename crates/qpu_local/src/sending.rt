@@ -4,12 +4,12 @@ ghost use Rattle.qpu_word.specs.Words.{is_branch, is_unit_word};
 ghost use Rattle.qpu_word.specs.Lanes.{lanes};
 ghost use Rattle.qpu_word.specs.Fit.{IsFit};
 ghost use Rattle.qpu_word.specs.declared.traffic.Ins.{Ins};
-ghost use Rattle.qpu_word.specs.Writing.{rotated};
 ghost use Rattle.qpu_word.specs.Instruction.{signed_pair, bit_pair, loaded, link_of, plain_values, add_sent, mul_sent, flags_after};
 
 use crate::flagging::{after_load, after_units};
 use crate::processor::Processor;
 use crate::reading::repeated;
+use qpu_pack::rotate;
 use qpu_word::code::{BRANCH_SLOTS, INSTRUCTION_BYTES, KIND_LOAD, KIND_LOAD_SIGNED};
 use qpu_word::{Fields, Flags, Ins, LANES, Lanes};
 
@@ -32,19 +32,6 @@ pub fn sixteen(values: &Lanes)
     ensures { length values.now.v ≡ 16 }
 {
     let _first = values.v[0];
-}
-
-/// A value rotated by n lanes, n below 16; by none it stays as it is.
-#[tactic(auto, using(crate::proofs::StoreLemmas::not_rotated))]
-fn rotate(values: &Lanes, n: u32) -> Lanes
-    requires { n < 16 }
-    ensures { result.v ≡ rotated n values.now.v }
-{
-    sixteen(values);
-    if n == 0 {
-        return *values;
-    }
-    qpu_pack::rotate(values, n)
 }
 
 /// Two bits as a signed number.

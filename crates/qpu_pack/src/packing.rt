@@ -119,19 +119,44 @@ fn pack_one(mode: u32, old: u32, n: u32) -> u32
     }
 }
 
+/// All lanes packed by one mode.
+#[tactic(auto, using(qpu_word::proofs::LaneLemmas::filled_all))]
+fn packed_by<const MODE: u32>(old: &Lanes, value: &Lanes) -> Lanes
+    requires below { MODE < 16 }
+    requires known { MODE ≢ 8 }
+    ensures { result.v ≡ lanes (λ i. packed MODE (lane old.now.v i) (lane value.now.v i)) }
+{
+    let mut out = [0; LANES];
+    for i in 0..LANES {
+        out[i] = pack_one(MODE, old.v[i], value.v[i]);
+    }
+    Lanes { v: out }
+}
+
 /// A value packed into an old one, by a pack mode below 16 other than 8: 0 whole; 1 and 2 the low
 /// and high half word; 3 the low byte into all bytes; 4 to 7 the low byte into byte 0 to 3; 9 and
 /// 10 as 1 and 2 after clamping to a signed half word; 11 to 15 as 3 to 7 after clamping to a
 /// byte. The other bits stay.
-#[tactic(auto, using(qpu_word::proofs::LaneLemmas::filled_all))]
 pub fn pack_into(mode: u32, old: &Lanes, value: &Lanes) -> Lanes
     requires below { mode < 16 }
     requires known { mode ≢ 8 }
     ensures { result.v ≡ lanes (λ i. packed mode (lane old.now.v i) (lane value.now.v i)) }
 {
-    let mut out = [0; LANES];
-    for i in 0..LANES {
-        out[i] = pack_one(mode, old.v[i], value.v[i]);
+    match mode {
+        0 => packed_by::<0>(old, value),
+        1 => packed_by::<1>(old, value),
+        2 => packed_by::<2>(old, value),
+        3 => packed_by::<3>(old, value),
+        4 => packed_by::<4>(old, value),
+        5 => packed_by::<5>(old, value),
+        6 => packed_by::<6>(old, value),
+        7 => packed_by::<7>(old, value),
+        9 => packed_by::<9>(old, value),
+        10 => packed_by::<10>(old, value),
+        11 => packed_by::<11>(old, value),
+        12 => packed_by::<12>(old, value),
+        13 => packed_by::<13>(old, value),
+        14 => packed_by::<14>(old, value),
+        _ => packed_by::<15>(old, value),
     }
-    Lanes { v: out }
 }

@@ -47,16 +47,33 @@ fn unpack_one(mode: u32, n: u32) -> u32
     }
 }
 
+/// All lanes unpacked by one mode.
+#[tactic(auto, using(qpu_word::proofs::LaneLemmas::filled_all))]
+fn unpacked_by<const MODE: u32>(value: &Lanes) -> Lanes
+    requires { MODE < 8 }
+    ensures { result.v ≡ lanes (λ i. unpacked MODE (lane value.now.v i)) }
+{
+    let mut out = [0; LANES];
+    for i in 0..LANES {
+        out[i] = unpack_one(MODE, value.v[i]);
+    }
+    Lanes { v: out }
+}
+
 /// A value of file A after an unpack mode below 8: 0 whole; 1 and 2 the low and high half word
 /// with its sign; 3 the high byte in all four bytes; 4 to 7 byte 0 to 3.
-#[tactic(auto, using(qpu_word::proofs::LaneLemmas::filled_all))]
 pub fn unpack(mode: u32, value: &Lanes) -> Lanes
     requires { mode < 8 }
     ensures { result.v ≡ lanes (λ i. unpacked mode (lane value.now.v i)) }
 {
-    let mut out = [0; LANES];
-    for i in 0..LANES {
-        out[i] = unpack_one(mode, value.v[i]);
+    match mode {
+        0 => unpacked_by::<0>(value),
+        1 => unpacked_by::<1>(value),
+        2 => unpacked_by::<2>(value),
+        3 => unpacked_by::<3>(value),
+        4 => unpacked_by::<4>(value),
+        5 => unpacked_by::<5>(value),
+        6 => unpacked_by::<6>(value),
+        _ => unpacked_by::<7>(value),
     }
-    Lanes { v: out }
 }
