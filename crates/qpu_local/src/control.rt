@@ -26,6 +26,7 @@ pub struct NextControl {
 }
 
 /// What is in progress one word later.
+#[inline(always)]
 fn rest_one_later(rest: Rest) -> Rest
     ensures { result ≡ rest_later rest }
 {
@@ -45,6 +46,7 @@ fn rest_one_later(rest: Rest) -> Rest
 }
 
 /// The place one word later.
+#[inline(always)]
 fn place_one_later(rest: Rest, place: u32) -> u32
     requires { place < 2 ^ 31 }
     ensures { result ≡ place_later rest place }
@@ -57,6 +59,7 @@ fn place_one_later(rest: Rest, place: u32) -> u32
 }
 
 /// The halt one word later.
+#[inline(always)]
 fn halt_one_later(rest: Rest) -> Halt
     ensures { result ≡ halt_later rest }
 {
@@ -129,6 +132,7 @@ impl Processor {
 
     /// What is in progress after a word.
     #[tactic(auto, unfolding(qpu_word::specs::Instruction::rest_after))]
+    #[inline(always)]
     fn rest_after(&self, f: &Fields) -> Rest
         requires fit { IsFit f.now }
         requires place { IsTrue (is_branch f.now) → self.now.place < 4096 }
@@ -146,6 +150,7 @@ impl Processor {
 
     /// The place after a word.
     #[tactic(auto, unfolding(qpu_word::specs::Instruction::place_after))]
+    #[inline(always)]
     fn place_after(&self, f: &Fields) -> u32
         requires { self.now.executed < 1000000 }
         ensures place { result ≡ place_after f.now self.now }
@@ -160,6 +165,7 @@ impl Processor {
 
     /// The halt after a word.
     #[tactic(auto, unfolding(qpu_word::specs::Instruction::halt_after))]
+    #[inline(always)]
     fn halt_after(&self, f: &Fields) -> Halt
         ensures { result ≡ halt_after f.now self.now }
     {
@@ -171,6 +177,7 @@ impl Processor {
     }
 
     /// Where control stands after a word.
+    #[inline(always)]
     pub(crate) fn next(&self, f: &Fields) -> NextControl
         requires fit { IsFit f.now }
         requires executed { self.now.executed < 1000000 }
