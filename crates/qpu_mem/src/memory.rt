@@ -1,8 +1,9 @@
-ghost use Rattle.std.specs.Prelude.{◌≡◌, ◌<◌, ◌≤◌, ◌↔◌, ◌*◌, ◌/◌, drop, length, take, replicate, slice_get, slice_set, IfOk, IsTrue, if◌then◌else◌, nat_lt};
+ghost use Rattle.std.specs.Prelude.{◌≡◌, ◌<◌, ◌≤◌, ◌↔◌, ◌*◌, ◌/◌, drop, length, take, replicate, slice_get, slice_index, slice_set, IfOk, IsTrue, if◌then◌else◌, nat_lt};
 ghost use Rattle.qpu_word.specs.declared.code.TheConstants.{MEMORY_WORDS};
 ghost use Rattle.qpu_bytes.specs.Elements.{is_place, element, with_part};
 ghost use Rattle.qpu_mem.specs.declared.memory.TheConstants.{GROUP};
 
+use crate::bank::{BANK, Bank, clear_banks, copied_banks};
 use qpu_bytes::{Size, part_of, with_part_of};
 use qpu_word::NoMemory;
 use qpu_word::code::WORD_BYTES;
@@ -12,28 +13,24 @@ use std::marker::Model;
 /// How many words a group has, in which memory is shown.
 pub const GROUP: usize = 8;
 
-/// The first words of a list, as many as a group has.
-fn first_group(words: &[u32]) -> &[u32]
-    ensures { result.now ≡ take GROUP words.now }
-{
-    &words[..words.len().min(GROUP)]
-}
-
 /// Words of memory, seen as a list. It has 1 to 1,048,576 words.
 #[derive(Debug, Drop)]
 pub struct Memory {
-    words: Vec<u32>,
+    banks: Vec<Bank>,
+    /// How many words there are.
+    words: usize,
 }
 
 impl Model for Memory {
-    ghost use Rattle.std.specs.Prelude.{List, ℕ, vec_len, ◌≤◌};
+    ghost use Rattle.std.specs.Prelude.{List, ℕ, ◌≤◌};
     ghost use Rattle.qpu_word.specs.declared.code.TheConstants.{MEMORY_WORDS};
+    ghost use Rattle.qpu_mem.specs.Banks.{words_in, IsBanked};
 
     ghost Value = { List ℕ };
 
-    ghost view = { λ memory. memory.words.items };
+    ghost view = { λ memory. words_in memory.banks.items };
 
-    ghost invariant = { λ memory. vec_len memory.words ≤ MEMORY_WORDS };
+    ghost invariant = { λ memory. IsBanked memory.words memory.banks.items × (memory.words ≤ MEMORY_WORDS) };
 }
 
 impl Memory {
@@ -43,8 +40,9 @@ impl Memory {
         requires most { words ≤ MEMORY_WORDS }
         ensures { IfOk result (λ memory. memory ≡ replicate words 0) }
     {
-        match vec![in alloc; 0u32; words as usize] {
-            Ok(words) => Ok(Memory { words }),
+        let words = words as usize;
+        match clear_banks(alloc, words) {
+            Ok(banks) => Ok(Memory { banks, words }),
             Err(_) => Err(NoMemory),
         }
     }
@@ -54,14 +52,36 @@ impl Memory {
         ensures words { result ≡ length self.now }
         ensures most { result ≤ MEMORY_WORDS }
     {
-        self.words.len() as u32
+        self.words as u32
+    }
+
+    /// The word at an index below the length.
+    fn word_at(&self, at: u32) -> u32
+        requires { at < length self.now }
+        ensures { result ≡ slice_index self.now at }
+    {
+        let at = at as usize;
+        self.banks[at / BANK].word(at % BANK)
+    }
+
+    /// Sets the word at an index below the length.
+    fn set_at(&mut self, at: u32, value: u32)
+        requires { at < length self.old }
+        ensures { self.new ≡ slice_set self.old at value }
+    {
+        let at = at as usize;
+        self.banks[at / BANK].set(at % BANK, value);
     }
 
     /// The word at an index; none exactly where the index isn't below the length.
     pub fn word(&self, at: u32) -> Option<u32>
         ensures { result ≡ slice_get self.now at }
     {
-        self.words.get(at as usize).copied()
+        if at < self.len() {
+            Some(self.word_at(at))
+        } else {
+            None
+        }
     }
 
     /// The k-th group of eight words, from 0; the last group has the words that remain, and groups
@@ -70,9 +90,11 @@ impl Memory {
         ensures group { result.now ≡ take GROUP (drop (GROUP * k) self.now) }
         ensures most { length self.now ≤ MEMORY_WORDS }
     {
-        match self.words.get(k as usize * GROUP..) {
-            Some(rest) => first_group(rest),
-            None => &[],
+        let first = k as usize * GROUP;
+        if first < self.len() as usize {
+            self.banks[first / BANK].group(first % BANK)
+        } else {
+            &[]
         }
     }
 
@@ -82,10 +104,10 @@ impl Memory {
         ensures there { IsTrue result ↔ (at < length self.old) }
         ensures words { self.new ≡ (if nat_lt at (length self.old) then slice_set self.old at value else self.old) }
     {
-        if self.words.len() <= at as usize {
+        if self.len() <= at {
             return false;
         }
-        self.words[at as usize] = value;
+        self.set_at(at, value);
         true
     }
 
@@ -96,7 +118,7 @@ impl Memory {
         requires whole { IsTrue (is_place at size) }
         ensures { result ≡ element self.now at size }
     {
-        let word = *self.words.get((at / WORD_BYTES) as usize)?;
+        let word = self.word(at / WORD_BYTES)?;
         Some(part_of(word, at % WORD_BYTES, size))
     }
 
@@ -109,11 +131,12 @@ impl Memory {
         ensures there { IsTrue result ↔ (at / 4 < length self.old) }
         ensures words { self.new ≡ (if nat_lt (at / 4) (length self.old) then with_part self.old at size value else self.old) }
     {
-        let index = (at / WORD_BYTES) as usize;
-        if self.words.len() <= index {
+        let index = at / WORD_BYTES;
+        if self.len() <= index {
             return false;
         }
-        self.words[index] = with_part_of(self.words[index], at % WORD_BYTES, size, value);
+        let word = self.word_at(index);
+        self.set_at(index, with_part_of(word, at % WORD_BYTES, size, value));
         true
     }
 
@@ -121,8 +144,11 @@ impl Memory {
     pub fn copy(&self, alloc: Global) -> Result<Memory, NoMemory>
         ensures { IfOk result (λ memory. memory ≡ self.now) }
     {
-        match Vec::from_slice(alloc, &self.words) {
-            Ok(words) => Ok(Memory { words }),
+        match copied_banks(alloc, &self.banks) {
+            Ok(banks) => Ok(Memory {
+                banks,
+                words: self.words,
+            }),
             Err(_) => Err(NoMemory),
         }
     }
