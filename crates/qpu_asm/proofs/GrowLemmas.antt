@@ -78,11 +78,11 @@ pub grows_suffixes : (mul : Bool) (s : Suffixes) → Grows (suffix_marks mul s)
 unfolding suffix_marks
 grows_suffixes mul s = grows_then (first_suffix mul s.first) (second_suffix mul s.first s.second) (grows_first mul s.first) (grows_second mul s.first s.second)
 
-grows_condition : (s : Option Suffix) → Grows (condition_marks s)
+pub grows_condition : (s : Option Suffix) → Grows (condition_marks s)
 grows_condition None = grows_same
 grows_condition (Some s) = grows_mark_if (not (is_condition s.name)) what.Wrong s.dot
 
-grows_branch_condition : (s : Option Suffix) → Grows (branch_marks s)
+pub grows_branch_condition : (s : Option Suffix) → Grows (branch_marks s)
 grows_branch_condition None = grows_same
 grows_branch_condition (Some s) = grows_mark_if (not (is_branch_condition s.name)) what.Wrong s.dot
 

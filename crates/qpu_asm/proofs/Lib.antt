@@ -41,3 +41,12 @@ pub mod LineLaw
 pub mod RawLaw
 pub mod HexLemmas
 pub mod OneAssembly
+pub mod SpellsTold
+pub mod SpellsLine
+pub mod SpellsPieces
+pub mod SpellsUnitParts
+pub mod SpellsTags
+pub mod SpellsForms
+pub mod SpellsOthers
+pub mod SpellsBoth
+pub mod SpellsLaw

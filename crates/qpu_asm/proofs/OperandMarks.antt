@@ -48,7 +48,7 @@ code_by p a (suc n) end e = by_test (p a) (code_by p (a + 1) n end (omega arith)
     by_test true more = omega arith
     by_test false more = more
 
-code_low : (value : ℕ) → IfSome (code_of value) (λ c. c < 48)
+pub code_low : (value : ℕ) → IfSome (code_of value) (λ c. c < 48)
 unfolding code_of
 code_low value = code_by (λ code. small_value code == value) 0 48 48 refl
 

@@ -135,7 +135,7 @@ op_by true true idle nop more e a b = (refl, refl)
 op_by true false idle nop more e a b = absurd (grind (arith, e, a, b))
 op_by false some idle nop more e a b = absurd (grind (arith, e, a, b))
 
-turn_by : (empty some idle nop more : Bool) → ((empty && (some || (idle && nop))) || more) ≡ true → some ≡ false → nop ≡ false → more ≡ true
+pub turn_by : (empty some idle nop more : Bool) → ((empty && (some || (idle && nop))) || more) ≡ true → some ≡ false → nop ≡ false → more ≡ true
 turn_by empty some idle nop true e a b = refl
 turn_by empty some idle nop false e a b = absurd (grind (arith, e, a, b))
 

@@ -139,7 +139,7 @@ pub gives_ended : {A : Type 0} (P : A → Type 0) (a : A) (xs : List Placed) →
 gives_ended P a [] holds = holds
 gives_ended P a (x ∷ xs) holds = tt
 
-gives_if : {A : Type 0} (P : A → Type 0) (b : Bool) (r s : Result A Token) → (b ≡ true → GivesPart P r) → (b ≡ false → GivesPart P s) → GivesPart P (if b then r else s)
+pub gives_if : {A : Type 0} (P : A → Type 0) (b : Bool) (r s : Result A Token) → (b ≡ true → GivesPart P r) → (b ≡ false → GivesPart P s) → GivesPart P (if b then r else s)
 gives_if P true r s then_so else_so = then_so refl
 gives_if P false r s then_so else_so = else_so refl
 

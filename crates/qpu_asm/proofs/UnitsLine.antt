@@ -35,6 +35,8 @@ pub clear_left : (xs ys : List Mark) → IsClear (xs ++ ys) → IsClear xs
 clear_left xs ys c = record {
   right = λ a. c.right (has_left _ xs ys a);
   near = λ a. c.near (has_left _ xs ys a);
+  known = λ a. c.known (has_left _ xs ys a);
+  sets = λ a. c.sets (before_left _ _ xs ys a);
   reads_a = λ n m a b. c.reads_a n m (has_left _ xs ys a) (has_left _ xs ys b);
   reads_b = λ n m a b. c.reads_b n m (has_left _ xs ys a) (has_left _ xs ys b);
   numbers = λ n m a b. c.numbers n m (has_left _ xs ys a) (has_left _ xs ys b);

@@ -14,4 +14,6 @@ pub mod Meanings
 pub mod LinesRead
 pub mod Assembly
 pub mod Laws
+pub mod SpelledPieces
+pub mod Spells
 pub mod HexLines

@@ -10,6 +10,7 @@ ghost use Rattle.qpu_asm.specs.Placed.{placed_token, Labels};
 ghost use Rattle.qpu_asm.specs.LinesRead.{read_line};
 ghost use Rattle.qpu_asm.specs.Assembly.{IsAssembly};
 ghost use Rattle.qpu_asm.specs.Laws.{IsProper, symbols_of, word_symbols};
+ghost use Rattle.qpu_asm.specs.Spells.{IsSpelled};
 
 /// The names among a text's tokens are names of the language.
 #[tactic(auto, using(crate::proofs::ProperTokens::placed_proper))]
@@ -20,6 +21,11 @@ pub fn placed_tokens_are_proper()
 /// What a line says has a canonical word.
 pub fn lines_have_words()
     ensures { (at : ℕ) (end : TokenOf) (xs : List PlacedOf) (i : InstructionOf) → All IsProper xs → read_line at end xs ≡ Ok (Says i) → HasWord i }
+{}
+
+/// A line that is read as an instruction spells it.
+pub fn lines_spell_what_they_say()
+    ensures { (at : ℕ) (end : TokenOf) (xs : List PlacedOf) (i : InstructionOf) → All IsProper xs → read_line at end xs ≡ Ok (Says i) → IsSpelled at xs i }
 {}
 
 /// So what a line of a text says has one, whatever its tokens are.
