@@ -18,7 +18,7 @@ use Rattle.qpu_asm.proofs.AgainUnits.{SaysUnit}
 use Rattle.qpu_asm.proofs.AgainMarks.{Given, Clean, clean_if}
 use Rattle.qpu_asm.proofs.AgainSources.{Holds, CanRead, operand_clean, operand_back, suffixes_clean, condition_back, pack_clean, pack_back, target_marks_are}
 
-not_true : (b : Bool) → not b ≡ true → b ≡ false
+pub not_true : (b : Bool) → not b ≡ true → b ≡ false
 not_true true e = cc
 not_true false e = refl
 
@@ -38,7 +38,7 @@ unit_clean W V g mul sets op p v ms step adds fits named first second says c =
     let one : Clean V g (operand_marks mul v.a (target_marks v.to behind)) = operand_clean V g mul p.a v.a (target_marks v.to behind) says.a first target in
     operand_clean V g mul p.b v.b (operand_marks mul v.a (target_marks v.to behind)) says.b second one
 
-same_part : (p : UnitDoes) (op cond pack : ℕ) (to : Place) (a b : Operand) → op ≡ p.op → cond ≡ p.cond → to ≡ p.to → pack ≡ p.pack → a ≡ p.a → b ≡ p.b
+pub same_part : (p : UnitDoes) (op cond pack : ℕ) (to : Place) (a b : Operand) → op ≡ p.op → cond ≡ p.cond → to ≡ p.to → pack ≡ p.pack → a ≡ p.a → b ≡ p.b
     → record { op = op; cond = cond; to = to; pack = pack; a = a; b = b } ≡ p
 same_part p op cond pack to a b e f g h i j = rw (e, f, g, h, i, j) refl
 

@@ -50,3 +50,11 @@ pub mod SpellsForms
 pub mod SpellsOthers
 pub mod SpellsBoth
 pub mod SpellsLaw
+pub mod ReadPieces
+pub mod ReadParts
+pub mod ReadOthers
+pub mod ReadBoth
+pub mod ReadNames
+pub mod ReadLoads
+pub mod ReadBranches
+pub mod ReadLaw

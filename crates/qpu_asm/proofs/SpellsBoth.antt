@@ -43,7 +43,7 @@ use Rattle.qpu_asm.proofs.SpellsOthers.{OthersOf, IsUnits, AreFine, fine_rest, o
 
 -- other reads
 
-abbrev some_read : List ℕ → Bool
+abbrev pub some_read : List ℕ → Bool
 some_read [] = false
 some_read (r ∷ rs) = true
 
@@ -56,13 +56,13 @@ is_other [] P w each is same = other
 is_other (r ∷ rs) P None each is same = other_none
 is_other (r ∷ rs) P (Some n) each is same = let Q : ℕ → Type 0 = λ z. IsOther (r ∷ rs) (Some z) None in subst Q (same r n each.0 is) superfluous
 
-some_a : (o : Operand) → some_read (by_a o) ≡ is_some (address_a o)
+pub some_a : (o : Operand) → some_read (by_a o) ≡ is_some (address_a o)
 some_a (operand.FileA n u) = refl
 some_a (operand.FileB n) = refl
 some_a (operand.Accumulator n) = refl
 some_a (operand.Small code) = refl
 
-some_b : (o : Operand) → some_read (by_b o) ≡ is_some (address_b o)
+pub some_b : (o : Operand) → some_read (by_b o) ≡ is_some (address_b o)
 some_b (operand.FileA n u) = refl
 some_b (operand.FileB n) = refl
 some_b (operand.Accumulator n) = refl
@@ -72,7 +72,7 @@ part_reads : (by : Operand → List ℕ) (address : Operand → Option ℕ) (o :
 part_reads by address None same = refl
 part_reads by address (Some p) same = reads_append (by p.a) (by p.b) ∙ rw (same p.a, same p.b) refl
 
-both_reads : (by : Operand → List ℕ) (address : Operand → Option ℕ) (a b : Option UnitDoes) → ((y : Operand) → some_read (by y) ≡ is_some (address y))
+pub both_reads : (by : Operand → List ℕ) (address : Operand → Option ℕ) (a b : Option UnitDoes) → ((y : Operand) → some_read (by y) ≡ is_some (address y))
     → some_read (by_part by a ++ by_part by b) ≡ (reads_by address a || reads_by address b)
 both_reads by address a b same = reads_append (by_part by a) (by_part by b) ∙ rw (part_reads by address a same, part_reads by address b same) refl
 

@@ -35,11 +35,11 @@ abbrev pub CutFrom : List Placed → SectionTokens → List SectionTokens → Ty
 CutFrom xs first [] = xs ≡ first.tokens
 CutFrom xs first (next ∷ more) = (x : Placed) × (rest : List Placed) × (xs ≡ first.tokens ++ x ∷ rest) × (x.symbol ≡ symbol.Semicolon) × CutFrom rest next more
 
-record IsCut (end : Token) (done : List SectionTokens) (front xs : List Placed) : Type 0 where
-  first : SectionTokens
-  more : List SectionTokens
-  same : (put_section end (fold cut_on (record { sections = done; tokens = front }) xs)).sections ≡ done ++ first ∷ more
-  cut : CutFrom (front ++ xs) first more
+pub record IsCut (end : Token) (done : List SectionTokens) (front xs : List Placed) : Type 0 where
+  pub first : SectionTokens
+  pub more : List SectionTokens
+  pub same : (put_section end (fold cut_on (record { sections = done; tokens = front }) xs)).sections ≡ done ++ first ∷ more
+  pub cut : CutFrom (front ++ xs) first more
 
 semicolon_is : (s : Symbol) → is_semicolon s ≡ true → s ≡ symbol.Semicolon
 semicolon_is symbol.Semicolon e = refl
@@ -69,7 +69,7 @@ cut_by false end done front x xs e more =
       cut = subst P (append_assoc front (x ∷ []) xs) r.cut;
     }
 
-is_cut : (end : Token) (done : List SectionTokens) (front xs : List Placed) → IsCut end done front xs
+pub is_cut : (end : Token) (done : List SectionTokens) (front xs : List Placed) → IsCut end done front xs
 is_cut end done front [] = record { first = record { tokens = front; end = end }; more = []; same = refl; cut = append-nil front }
 is_cut end done front (x ∷ xs) = cut_by (is_semicolon x.symbol) end done front x xs refl (λ before tokens. is_cut end before tokens xs)
 
@@ -206,7 +206,7 @@ known_by at end xs s ss all None e cut good =
     let P : List SectionTokens → Type 0 = λ z. LineGives (LineTold at xs) (by_parts at end (parts_of z)) in
     subst P (sym e) (read_parts at end xs s ss (parts_of (s ∷ ss)) cut (all_told (s ∷ ss)) (λ all_good. subst G e (good all_good)))
 
-sections_are : (end : Token) (xs : List Placed) → sections_of end xs ≡ (put_section end (fold cut_on (record { sections = []; tokens = [] }) xs)).sections
+pub sections_are : (end : Token) (xs : List Placed) → sections_of end xs ≡ (put_section end (fold cut_on (record { sections = []; tokens = [] }) xs)).sections
 unfolding sections_of
 sections_are end xs = refl
 

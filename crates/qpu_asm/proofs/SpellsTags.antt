@@ -108,7 +108,7 @@ none_behind first done (s ∷ ss) (p ∷ later) none told =
 
 -- a part of a kind stays one of those that are done
 
-any_left : (kind : Part → Bool) (done : List Part) (p : Part) → list_any kind done ≡ true → list_any kind (done ++ p ∷ []) ≡ true
+pub any_left : (kind : Part → Bool) (done : List Part) (p : Part) → list_any kind done ≡ true → list_any kind (done ++ p ∷ []) ≡ true
 any_left kind [] p e = absurd (grind (arith, e))
 any_left kind (q ∷ done) p e = by_head (kind q) e (any_left kind done p)
   where
@@ -116,7 +116,7 @@ any_left kind (q ∷ done) p e = by_head (kind q) e (any_left kind done p)
     by_head true e more = refl
     by_head false e more = more e
 
-any_last : (kind : Part → Bool) (done : List Part) (p : Part) → kind p ≡ true → list_any kind (done ++ p ∷ []) ≡ true
+pub any_last : (kind : Part → Bool) (done : List Part) (p : Part) → kind p ≡ true → list_any kind (done ++ p ∷ []) ≡ true
 any_last kind [] p e = rw e refl
 any_last kind (q ∷ done) p e = by_head (kind q) (any_last kind done p e)
   where

@@ -23,9 +23,10 @@ pub fn lines_have_words()
     ensures { (at : ℕ) (end : TokenOf) (xs : List PlacedOf) (i : InstructionOf) → All IsProper xs → read_line at end xs ≡ Ok (Says i) → HasWord i }
 {}
 
-/// A line that is read as an instruction spells it.
+/// A line of the language's names says an instruction exactly where its symbols spell it, by the grammar
+/// of lines.
 pub fn lines_spell_what_they_say()
-    ensures { (at : ℕ) (end : TokenOf) (xs : List PlacedOf) (i : InstructionOf) → All IsProper xs → read_line at end xs ≡ Ok (Says i) → IsSpelled at xs i }
+    ensures { (at : ℕ) (end : TokenOf) (xs : List PlacedOf) (i : InstructionOf) → All IsProper xs → read_line at end xs ≡ Ok (Says i) ↔ IsSpelled at xs i }
 {}
 
 /// So what a line of a text says has one, whatever its tokens are.
