@@ -58,3 +58,4 @@ pub mod ReadNames
 pub mod ReadLoads
 pub mod ReadBranches
 pub mod ReadLaw
+pub mod SpellsTrials

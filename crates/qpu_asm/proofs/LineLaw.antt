@@ -337,7 +337,7 @@ line_has_word at end (x ∷ rest) good =
 pub lines_law : (at : ℕ) (end : Token) (xs : List Placed) (i : Instruction) → All IsProper xs → read_line at end xs ≡ Ok (Says i) → HasWord i
 lines_law at end xs i proper e = subst LineHasWord e (line_has_word at end xs (all_good xs proper))
 
-all_placed : (text : List ℕ) (labels : Labels) (tokens : List Token) → All IsProper (map (placed_token text labels) tokens)
+pub all_placed : (text : List ℕ) (labels : Labels) (tokens : List Token) → All IsProper (map (placed_token text labels) tokens)
 all_placed text labels [] = λ k d low. absurd (omega arith)
 all_placed text labels (t ∷ tokens) = All-cons IsProper (placed_token text labels t) (map (placed_token text labels) tokens) (placed_proper text labels t) (all_placed text labels tokens)
 
