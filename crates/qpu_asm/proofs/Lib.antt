@@ -59,3 +59,4 @@ pub mod ReadLoads
 pub mod ReadBranches
 pub mod ReadLaw
 pub mod SpellsTrials
+pub mod TextLaw

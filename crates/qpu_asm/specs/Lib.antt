@@ -13,6 +13,7 @@ pub mod Judging
 pub mod Meanings
 pub mod LinesRead
 pub mod Assembly
+pub mod SpelledTexts
 pub mod Laws
 pub mod SpelledPieces
 pub mod Spells

@@ -15,6 +15,7 @@ ghost use Rattle.qpu_asm.specs.LinesRead.{read_line};
 ghost use Rattle.qpu_asm.specs.Assembly.{IsAssembly};
 ghost use Rattle.qpu_asm.specs.Laws.{IsProper, symbols_of, word_symbols};
 ghost use Rattle.qpu_asm.specs.Spells.{Spells, IsSpelled};
+ghost use Rattle.qpu_asm.specs.SpelledTexts.{SpellsText};
 
 /// The names among a text's tokens are names of the language.
 #[tactic(auto, using(crate::proofs::ProperTokens::placed_proper))]
@@ -36,6 +37,11 @@ pub fn lines_spell_what_they_say()
 /// So does a line of a text, whatever its tokens are.
 pub fn lines_of_texts_spell_what_they_say()
     ensures { (text : List ℕ) (labels : Labels) (at : ℕ) (end : TokenOf) (tokens : List TokenOf) (i : InstructionOf) → read_line at end (map (placed_token text labels) tokens) ≡ Ok (Says i) ↔ IsSpelled at (map (placed_token text labels) tokens) i }
+{}
+
+/// A text has words exactly where its lines spell them, one each.
+pub fn texts_have_the_words_they_spell()
+    ensures { (text : List ℕ) (words : List ℕ) → IsAssembly text (Ok words) ↔ SpellsText text words }
 {}
 
 /// `or r0, 1, 2` spells no instruction.

@@ -31,6 +31,6 @@ pub use assembly::assemble;
 pub use laws::{
     lines_have_words, lines_of_texts_have_words, lines_of_texts_spell_what_they_say,
     lines_spell_what_they_say, placed_tokens_are_proper, raw_lines_are_words,
-    texts_have_one_answer, two_immediates_spell_nothing,
+    texts_have_one_answer, texts_have_the_words_they_spell, two_immediates_spell_nothing,
 };
 pub use words::words_of;
