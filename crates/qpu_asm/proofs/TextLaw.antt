@@ -1,6 +1,7 @@
 -- A text has exactly the words that its lines spell.
-use Rattle.std.proofs.Common.{◌≡◌, ◌↔◌, ℕ, zero, suc, ◌+◌, List, [], ◌∷◌, ◌++◌, length, Result, Ok, Err, refl, sym, subst, ap, ◌∙◌, append-nil, append_assoc, arith}
+use Rattle.std.proofs.Common.{◌≡◌, ◌↔◌, ℕ, ◌+◌, List, [], ◌∷◌, ◌++◌, length, map, Result, Ok, Err, refl, sym, subst, ap, ◌∙◌, append-nil, append_assoc}
 use Rattle.std.proofs.lemmas.List.{length-append}
+use Rattle.qpu_word.specs.declared.word.Word.{Word}
 use Rattle.qpu_token.specs.declared.token.Token.{Token}
 use Rattle.qpu_token.specs.declared.fault.AsmFault.{AsmFault}
 use Rattle.qpu_token.specs.Tokens.{AreTokens}
@@ -8,9 +9,9 @@ use Rattle.qpu_expr.specs.Expansion.{Left, expansion}
 use Rattle.qpu_asm.specs.declared.line.Line.{Line}
 use Rattle.qpu_asm.specs.declared.line.Line.TheVariants.{Raw, Says}
 use Rattle.qpu_asm.specs.Placed.{Labels}
-use Rattle.qpu_asm.specs.LinesRead.{read_line, word_in}
-use Rattle.qpu_asm.specs.Assembly.{and_then, closing_token, line_at, words_of_lines, encoding, labels_of, assembled, IsAssembly}
-use Rattle.qpu_asm.specs.SpelledTexts.{SpellsWord, placed_line, SpellWords, SpellsText}
+use Rattle.qpu_asm.specs.LinesRead.{word_in}
+use Rattle.qpu_asm.specs.Assembly.{and_then, closing_token, line_at, words_of_lines, encoding, labels_of, IsAssembly, AreWords}
+use Rattle.qpu_asm.specs.SpelledTexts.{SpellsWord, placed_line, SpellWords, SpellsText, AreSpelled}
 use Rattle.qpu_asm.specs.SpelledTexts.SpellsWord.{raw, says}
 use Rattle.qpu_asm.specs.SpelledTexts.SpellsText.{spelled}
 use Rattle.qpu_asm.proofs.LineLaw.{all_placed}
@@ -102,3 +103,6 @@ text_has text words (spelled {left = left} are e spell) =
 
 pub text_law : (text : List ℕ) (words : List ℕ) → IsAssembly text (Ok words) ↔ SpellsText text words
 text_law text words = (λ a. known_spells text words (known text (Ok words) a), text_has text words)
+
+pub words_are_spelled : (text : List ℕ) (words : List Word) → AreWords text words → AreSpelled text words
+words_are_spelled text words a = (text_law text (map (λ w. w.0) words)).0 a

@@ -1,6 +1,7 @@
 -- The words of a text by the grammar of its lines: each line that the expansion leaves spells one. This
 -- project's own.
 use Rattle.std.specs.Prelude.{◌≡◌, ℕ, ◌+◌, ◌-◌, List, [], ◌∷◌, length, map, take, Ok}
+use Rattle.qpu_word.specs.declared.word.Word.{Word}
 use Rattle.qpu_token.specs.declared.token.Token.{Token}
 use Rattle.qpu_token.specs.Tokens.{AreTokens}
 use Rattle.qpu_expr.specs.Expansion.{Left, expansion}
@@ -31,3 +32,7 @@ SpellWords text labels at lines words = ⊥
 pub data SpellsText (text : List ℕ) : List ℕ → Type 0 where
   spelled : {tokens : List Token} {left : Left} {words : List ℕ} → AreTokens text tokens → expansion text tokens ≡ Ok left
       → SpellWords text (labels_of text left.labels) 0 left.lines words → SpellsText text words
+
+-- the words are those that the text spells
+abbrev pub AreSpelled : List ℕ → List Word → Type 0
+AreSpelled text words = SpellsText text (map (λ w. w.0) words)
