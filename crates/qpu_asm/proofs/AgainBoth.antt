@@ -24,13 +24,13 @@ use Rattle.qpu_asm.specs.declared.part.UnitPart.{UnitPart}
 use Rattle.qpu_asm.specs.declared.part.Part.{Part}
 use Rattle.qpu_asm.specs.declared.part.Part.TheVariants as part
 use Rattle.qpu_asm.specs.declared.mark.Mark.{Mark}
-use Rattle.qpu_asm.specs.Pieces.{bare}
-use Rattle.qpu_asm.specs.Parts.{last_value, last_name, unit_part, part_by}
-use Rattle.qpu_asm.specs.Orders.{extra, follows, is_empty, second}
+use Rattle.qpu_asm.specs.reader.Pieces.{bare}
+use Rattle.qpu_asm.specs.reader.Parts.{last_value, last_name, unit_part, part_by}
+use Rattle.qpu_asm.specs.reader.Orders.{extra, follows, is_empty, second}
 use Rattle.qpu_asm.specs.Roles.{op_in_add, op_in_mul, is_mnemonic}
-use Rattle.qpu_asm.specs.SectionTokens.{SectionTokens}
-use Rattle.qpu_asm.specs.Marks.{rotation_marks}
-use Rattle.qpu_asm.specs.Meanings.{rotation_of}
+use Rattle.qpu_asm.specs.reader.SectionTokens.{SectionTokens}
+use Rattle.qpu_asm.specs.reader.Marks.{rotation_marks}
+use Rattle.qpu_asm.specs.reader.Meanings.{rotation_of}
 use Rattle.qpu_asm.proofs.AgainSpelled.{Spelled, symbols_append, never}
 use Rattle.qpu_asm.proofs.AgainUnits.{SaysUnit, unit_bits, part_bits_are, unit_read}
 use Rattle.qpu_asm.proofs.AgainSections.{Plain, AllPlain, AllBegin, tails, tails_append, AreSections, Reads}

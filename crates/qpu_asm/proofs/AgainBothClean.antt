@@ -23,8 +23,8 @@ use Rattle.qpu_asm.specs.declared.part.Part.{Part}
 use Rattle.qpu_asm.specs.declared.mark.What.TheVariants as what
 use Rattle.qpu_asm.specs.declared.mark.Mark.{Mark}
 use Rattle.qpu_asm.specs.Roles.{source_of, op_in_add, op_in_mul}
-use Rattle.qpu_asm.specs.Marks.{mark, other_a, other_b, part_marks, marks_of}
-use Rattle.qpu_asm.specs.Judging.{cross, line_fault}
+use Rattle.qpu_asm.specs.reader.Marks.{mark, other_a, other_b, part_marks, marks_of}
+use Rattle.qpu_asm.specs.reader.Judging.{cross, line_fault}
 use Rattle.qpu_asm.proofs.AgainSpelled.{never}
 use Rattle.qpu_asm.proofs.AgainOperands.{source_a_is, source_b_is}
 use Rattle.qpu_asm.proofs.AgainMarks.{marks_are, Given, NoTarget, Only, AnyTarget, Clean, clean_start, clean_mark, clean_first, clean_second, no_fault}

@@ -19,7 +19,7 @@ use Rattle.qpu_asm.specs.declared.piece.Piece.{Piece}
 use Rattle.qpu_asm.specs.declared.part.UnitPart.{UnitPart}
 use Rattle.qpu_asm.specs.declared.part.Part.{Part}
 use Rattle.qpu_asm.specs.Roles.{source_of, op_in_add, op_in_mul}
-use Rattle.qpu_asm.specs.Meanings.{mul_in, unit_does, unit_sets, signal_in, address_a, address_b, reads_by, address_of_source, other_a_part, other_b_part, first_told, unless, units_of_parts, meaning}
+use Rattle.qpu_asm.specs.reader.Meanings.{mul_in, unit_does, unit_sets, signal_in, address_a, address_b, reads_by, address_of_source, other_a_part, other_b_part, first_told, unless, units_of_parts, meaning}
 use Rattle.qpu_asm.proofs.AgainOperands.{source_a_is, source_b_is}
 use Rattle.qpu_asm.proofs.AgainSources.{sets_back}
 use Rattle.qpu_asm.proofs.AgainHeld.{other_held, reads_a, reads_b, both_false}

@@ -29,15 +29,15 @@ use Rattle.qpu_asm.specs.declared.part.Part.TheVariants as part
 use Rattle.qpu_asm.specs.declared.line.Line.TheVariants.{Says}
 use Rattle.qpu_asm.specs.declared.mark.What.TheVariants as what
 use Rattle.qpu_asm.specs.declared.mark.Mark.{Mark}
-use Rattle.qpu_asm.specs.Pieces.{bare, suffix_at, comma_at, target_core, jump_core}
-use Rattle.qpu_asm.specs.Parts.{branch_part, last_name, part_by}
-use Rattle.qpu_asm.specs.Orders.{begins, follows}
+use Rattle.qpu_asm.specs.reader.Pieces.{bare, suffix_at, comma_at, target_core, jump_core}
+use Rattle.qpu_asm.specs.reader.Parts.{branch_part, last_name, part_by}
+use Rattle.qpu_asm.specs.reader.Orders.{begins, follows}
 use Rattle.qpu_asm.specs.Roles.{is_mnemonic}
-use Rattle.qpu_asm.specs.SectionTokens.{SectionTokens}
-use Rattle.qpu_asm.specs.Marks.{mark, target_place, somewhere, if_link, place_mark, branch_marks, jump_marks, jumping_marks, part_marks, marks_of}
-use Rattle.qpu_asm.specs.Judging.{cross, line_fault}
-use Rattle.qpu_asm.specs.Meanings.{place_of, branch_condition_in, distance, target_row, row_part, first_told, link_in, branch_of_part, meaning}
-use Rattle.qpu_asm.specs.LinesRead.{read_line}
+use Rattle.qpu_asm.specs.reader.SectionTokens.{SectionTokens}
+use Rattle.qpu_asm.specs.reader.Marks.{mark, target_place, somewhere, if_link, place_mark, branch_marks, jump_marks, jumping_marks, part_marks, marks_of}
+use Rattle.qpu_asm.specs.reader.Judging.{cross, line_fault}
+use Rattle.qpu_asm.specs.reader.Meanings.{place_of, branch_condition_in, distance, target_row, row_part, first_told, link_in, branch_of_part, meaning}
+use Rattle.qpu_asm.specs.reader.LinesRead.{read_line}
 use Rattle.qpu_asm.proofs.AgainOperands.{figure_worth}
 use Rattle.qpu_asm.proofs.AgainSpelled.{Spelled, symbols_append}
 use Rattle.qpu_asm.proofs.AgainPieces.{place_by, ends_stops, maybe_suffix, Suffixed, suffix_read, SaysCore, target_core_read, target_no_dot, jump_number}

@@ -31,13 +31,14 @@ use Rattle.qpu_asm.specs.declared.part.Part.TheVariants as part
 use Rattle.qpu_asm.specs.declared.line.Line.TheVariants.{Says}
 use Rattle.qpu_asm.specs.declared.mark.What.TheVariants as what
 use Rattle.qpu_asm.specs.declared.mark.Mark.{Mark}
-use Rattle.qpu_asm.specs.Pieces.{bare, suffix_at, comma_at, target_core, value_core}
-use Rattle.qpu_asm.specs.Parts.{suffixes_at, load_part, also_part, part_by}
-use Rattle.qpu_asm.specs.SectionTokens.{SectionTokens}
-use Rattle.qpu_asm.specs.Marks.{mark, target_place, somewhere, place_mark, any_number, condition_marks, suffix_marks, load_marks, also_marks, part_marks, marks_of}
-use Rattle.qpu_asm.specs.Judging.{cross, line_fault}
-use Rattle.qpu_asm.specs.Meanings.{place_of, is_nowhere, number_of, condition_in, sets_in, write_in, also_in, load_of_part, meaning}
-use Rattle.qpu_asm.specs.LinesRead.{read_line}
+use Rattle.qpu_asm.specs.reader.Pieces.{bare, suffix_at, comma_at, target_core, value_core}
+use Rattle.qpu_asm.specs.reader.Parts.{suffixes_at, load_part, also_part, part_by}
+use Rattle.qpu_asm.specs.reader.SectionTokens.{SectionTokens}
+use Rattle.qpu_asm.specs.reader.Marks.{mark, target_place, somewhere, place_mark, any_number, condition_marks, suffix_marks, load_marks, also_marks, part_marks, marks_of}
+use Rattle.qpu_asm.specs.reader.Judging.{cross, line_fault}
+use Rattle.qpu_asm.specs.SpelledPieces.{is_nowhere}
+use Rattle.qpu_asm.specs.reader.Meanings.{place_of, number_of, condition_in, sets_in, write_in, also_in, load_of_part, meaning}
+use Rattle.qpu_asm.specs.reader.LinesRead.{read_line}
 use Rattle.qpu_asm.proofs.AgainSpelled.{Spelled, symbols_append}
 use Rattle.qpu_asm.proofs.AgainPieces.{place_by, NoDot, ends_stops, maybe_suffix, Suffixed, suffix_read, SaysSuffixes, suffixes_read, SaysCore, target_core_read, target_no_dot, value_number}
 use Rattle.qpu_asm.proofs.AgainUnits.{condition_suffix, condition_is, comma_ends, comma_read, nothing_ends}

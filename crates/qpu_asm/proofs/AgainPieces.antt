@@ -17,13 +17,14 @@ use Rattle.qpu_asm.specs.declared.piece.Core.TheVariants as core
 use Rattle.qpu_asm.specs.declared.piece.Suffix.{Suffix}
 use Rattle.qpu_asm.specs.declared.piece.Piece.{Piece}
 use Rattle.qpu_asm.specs.declared.part.Suffixes.{Suffixes}
-use Rattle.qpu_asm.specs.Reading.{Read}
-use Rattle.qpu_asm.specs.Expressions.{length_from, expression_length}
+use Rattle.qpu_asm.specs.reader.Reading.{Read}
+use Rattle.qpu_asm.specs.reader.Expressions.{length_from, expression_length}
 use Rattle.qpu_asm.specs.declared.expression.Due.TheVariants.{Sign}
-use Rattle.qpu_asm.specs.Pieces.{named, is_minus, is_dot, is_comma, is_colon, stops, name_alone, alone, bare, length_of, target_of_length, value_of_length, target_core, value_core, operand_core, has_dot, jump_core, suffix_at, suffix_behind, suffix_of, target_at, operand_at}
-use Rattle.qpu_asm.specs.Parts.{suffixes_at}
+use Rattle.qpu_asm.specs.Spells.{is_colon}
+use Rattle.qpu_asm.specs.reader.Pieces.{named, is_minus, is_dot, is_comma, stops, name_alone, alone, bare, length_of, target_of_length, value_of_length, target_core, value_core, operand_core, has_dot, jump_core, suffix_at, suffix_behind, suffix_of, target_at, operand_at}
+use Rattle.qpu_asm.specs.reader.Parts.{suffixes_at}
 use Rattle.qpu_asm.specs.Roles.{target_meant}
-use Rattle.qpu_asm.specs.Marks.{target_place, somewhere}
+use Rattle.qpu_asm.specs.reader.Marks.{target_place, somewhere}
 use Rattle.qpu_asm.proofs.AgainSpelled.{Spelled}
 
 -- what stands behind a piece

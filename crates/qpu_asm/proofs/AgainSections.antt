@@ -15,16 +15,16 @@ use Rattle.qpu_asm.specs.declared.part.Part.{Part}
 use Rattle.qpu_asm.specs.declared.line.Line.{Line}
 use Rattle.qpu_asm.specs.declared.line.Line.TheVariants.{Says}
 use Rattle.qpu_asm.specs.Roles.{is_mnemonic}
-use Rattle.qpu_asm.specs.Parts.{part_by}
-use Rattle.qpu_asm.specs.Orders.{due}
-use Rattle.qpu_asm.specs.Pieces.{is_dot, is_colon}
-use Rattle.qpu_asm.specs.SectionTokens.{SectionTokens}
-use Rattle.qpu_asm.specs.Sections.{is_semicolon, Cutting, cut_on, put_section, sections_of, unknown_in, unknown_symbol, first_of, part_after_symbol, part_after, parts_on, parts_of}
-use Rattle.qpu_asm.specs.Marks.{marks_of}
-use Rattle.qpu_asm.specs.Judging.{line_fault}
-use Rattle.qpu_asm.specs.Meanings.{meaning}
-use Rattle.qpu_asm.specs.LinesRead.{instruction_line, read_line}
-use Rattle.qpu_asm.specs.Spells.{behind_first}
+use Rattle.qpu_asm.specs.reader.Parts.{part_by}
+use Rattle.qpu_asm.specs.reader.Orders.{due}
+use Rattle.qpu_asm.specs.reader.Pieces.{is_dot}
+use Rattle.qpu_asm.specs.reader.SectionTokens.{SectionTokens}
+use Rattle.qpu_asm.specs.reader.Sections.{is_semicolon, Cutting, cut_on, put_section, sections_of, unknown_in, unknown_symbol, first_of, part_after_symbol, part_after, parts_on, parts_of}
+use Rattle.qpu_asm.specs.reader.Marks.{marks_of}
+use Rattle.qpu_asm.specs.reader.Judging.{line_fault}
+use Rattle.qpu_asm.specs.reader.Meanings.{meaning}
+use Rattle.qpu_asm.specs.reader.LinesRead.{instruction_line, read_line}
+use Rattle.qpu_asm.specs.Spells.{behind_first, is_colon}
 use Rattle.qpu_asm.proofs.AgainSpelled.{Spelled, spelled_append, spelled_front, symbols_append}
 
 -- symbols with no sign `;`

@@ -16,14 +16,14 @@ use Rattle.qpu_asm.specs.declared.piece.Piece.{Piece}
 use Rattle.qpu_asm.specs.declared.part.Part.{Part}
 use Rattle.qpu_asm.specs.declared.part.Part.TheVariants as part
 use Rattle.qpu_asm.specs.declared.line.Line.TheVariants.{Says}
-use Rattle.qpu_asm.specs.Pieces.{bare}
-use Rattle.qpu_asm.specs.Parts.{last_value, part_by}
-use Rattle.qpu_asm.specs.Orders.{begins}
+use Rattle.qpu_asm.specs.reader.Pieces.{bare}
+use Rattle.qpu_asm.specs.reader.Parts.{last_value, part_by}
+use Rattle.qpu_asm.specs.reader.Orders.{begins}
 use Rattle.qpu_asm.specs.Roles.{is_mnemonic}
-use Rattle.qpu_asm.specs.Marks.{part_marks, marks_of}
-use Rattle.qpu_asm.specs.Judging.{line_fault}
-use Rattle.qpu_asm.specs.Meanings.{meaning}
-use Rattle.qpu_asm.specs.LinesRead.{read_line}
+use Rattle.qpu_asm.specs.reader.Marks.{part_marks, marks_of}
+use Rattle.qpu_asm.specs.reader.Judging.{line_fault}
+use Rattle.qpu_asm.specs.reader.Meanings.{meaning}
+use Rattle.qpu_asm.specs.reader.LinesRead.{read_line}
 use Rattle.qpu_asm.proofs.AgainSpelled.{Spelled}
 use Rattle.qpu_asm.proofs.AgainSections.{line_read}
 use Rattle.qpu_asm.proofs.AgainMarks.{nothing_given, NoTarget, clean_start, no_fault}

@@ -11,8 +11,9 @@ use Rattle.qpu_line.specs.Named.{IsNamedOperand, IsNamedPart, is_pack_at}
 use Rattle.qpu_asm.specs.declared.part.UnitPart.{UnitPart}
 use Rattle.qpu_asm.specs.declared.mark.What.TheVariants as what
 use Rattle.qpu_asm.specs.declared.mark.Mark.{Mark}
-use Rattle.qpu_asm.specs.Marks.{mark, mark_if, suffix_marks, target_marks, operand_marks, unit_marks, target_place}
-use Rattle.qpu_asm.specs.Meanings.{unit_of, place_of, condition_at, condition_in, pack_in, operand_of, is_nowhere}
+use Rattle.qpu_asm.specs.reader.Marks.{mark, mark_if, suffix_marks, target_marks, operand_marks, unit_marks, target_place}
+use Rattle.qpu_asm.specs.SpelledPieces.{is_nowhere}
+use Rattle.qpu_asm.specs.reader.Meanings.{unit_of, place_of, condition_at, condition_in, pack_in, operand_of}
 use Rattle.qpu_asm.proofs.AgainPieces.{place_by}
 use Rattle.qpu_asm.proofs.AgainUnits.{SaysUnit}
 use Rattle.qpu_asm.proofs.AgainMarks.{Given, Clean, clean_if}

@@ -11,7 +11,7 @@ use Rattle.qpu_asm.specs.declared.mark.What.TheVariants as what
 use Rattle.qpu_asm.specs.declared.mark.Mark.{Mark}
 use Rattle.qpu_asm.specs.declared.judge.Judged.{Judged}
 use Rattle.qpu_asm.specs.declared.judge.Judged.TheVariants.{Operands, TwoImmediates, TwoReads, Label, Range}
-use Rattle.qpu_asm.specs.Judging.{is_wrong, cross, clashes, first_faulty, kind_of, fault_at, fault_of_kind, line_fault}
+use Rattle.qpu_asm.specs.reader.Judging.{is_wrong, cross, clashes, first_faulty, kind_of, fault_at, fault_of_kind, line_fault}
 use Rattle.qpu_asm.proofs.TestLemmas.{either_false}
 
 -- marks among others

@@ -27,12 +27,12 @@ use Rattle.qpu_asm.specs.declared.part.Part.TheVariants as part
 use Rattle.qpu_asm.specs.declared.mark.What.TheVariants as what
 use Rattle.qpu_asm.specs.declared.mark.Mark.{Mark}
 use Rattle.qpu_asm.specs.Roles.{op_in_add, op_in_mul, is_mnemonic}
-use Rattle.qpu_asm.specs.Orders.{begins, is_unit, is_signal, is_rotation as is_rotation_part, is_read_a, is_read_b, due}
-use Rattle.qpu_asm.specs.SectionTokens.{SectionTokens}
-use Rattle.qpu_asm.specs.Sections.{part_after}
-use Rattle.qpu_asm.specs.Marks.{mark, mark_if, suffix_marks, pack_marks, target_marks, operand_marks, unit_marks, target_place, part_marks, marks_of}
-use Rattle.qpu_asm.specs.Judging.{line_fault}
-use Rattle.qpu_asm.specs.Meanings.{place_of, pack_in, operand_of, condition_at, unit_of, unit_does, unit_sets, signal_in, address_a, address_b, reads_by, first_told, other_a_part, other_b_part, unless, units_of_parts}
+use Rattle.qpu_asm.specs.reader.Orders.{begins, is_unit, is_signal, is_rotation as is_rotation_part, is_read_a, is_read_b, due}
+use Rattle.qpu_asm.specs.reader.SectionTokens.{SectionTokens}
+use Rattle.qpu_asm.specs.reader.Sections.{part_after}
+use Rattle.qpu_asm.specs.reader.Marks.{mark, mark_if, suffix_marks, pack_marks, target_marks, operand_marks, unit_marks, target_place, part_marks, marks_of}
+use Rattle.qpu_asm.specs.reader.Judging.{line_fault}
+use Rattle.qpu_asm.specs.reader.Meanings.{place_of, pack_in, operand_of, condition_at, unit_of, unit_does, unit_sets, signal_in, address_a, address_b, reads_by, first_told, other_a_part, other_b_part, unless, units_of_parts}
 use Rattle.qpu_asm.specs.SpelledPieces.{name_alone}
 use Rattle.qpu_asm.specs.Spells.{SpellsAdd, SpellsMul, SpellsOthers, by_a, by_b, by_part, IsOther, SpellsUnits}
 use Rattle.qpu_asm.specs.Spells.SpellsAdd.{idle as add_idle, active as add_active}
@@ -41,7 +41,7 @@ use Rattle.qpu_asm.specs.Spells.IsOther.{other, none as other_none, superfluous}
 use Rattle.qpu_asm.specs.Spells.SpellsUnits.{units}
 use Rattle.qpu_asm.specs.declared.line.Line.TheVariants.{Says as LineSays}
 use Rattle.qpu_asm.specs.Laws.{symbols_of}
-use Rattle.qpu_asm.specs.LinesRead.{read_line}
+use Rattle.qpu_asm.specs.reader.LinesRead.{read_line}
 use Rattle.qpu_asm.specs.Spells.{behind_first, joined}
 use Rattle.qpu_asm.proofs.AgainSpelled.{Spelled, spelled_map, never}
 use Rattle.qpu_asm.proofs.AgainPieces.{place_by}

@@ -27,25 +27,25 @@ use Rattle.qpu_asm.specs.declared.part.Part.TheVariants as part
 use Rattle.qpu_asm.specs.declared.mark.What.TheVariants as what
 use Rattle.qpu_asm.specs.declared.mark.Mark.{Mark}
 use Rattle.qpu_asm.specs.declared.line.Line.TheVariants.{Says}
-use Rattle.qpu_asm.specs.Reading.{Read}
+use Rattle.qpu_asm.specs.reader.Reading.{Read}
 use Rattle.qpu_asm.specs.Roles.{target_meant}
-use Rattle.qpu_asm.specs.Pieces.{is_colon, bare, name_alone as name_core, label_by, label_core, value_core, jump_core, comma_at}
-use Rattle.qpu_asm.specs.Parts.{part_by}
-use Rattle.qpu_asm.specs.Orders.{is_link, is_row, is_name, due}
-use Rattle.qpu_asm.specs.SectionTokens.{SectionTokens}
-use Rattle.qpu_asm.specs.Sections.{sections_of, part_after}
-use Rattle.qpu_asm.specs.Marks.{mark, branch_marks, target_place, place_mark, if_link, jump_marks, jumping_marks, part_marks}
-use Rattle.qpu_asm.specs.Judging.{cross}
-use Rattle.qpu_asm.specs.Meanings.{branch_condition_in, place_of, distance, target_row, row_part, first_told, link_in, branch_of_part, meaning}
+use Rattle.qpu_asm.specs.reader.Pieces.{bare, name_alone as name_core, label_by, label_core, value_core, jump_core, comma_at}
+use Rattle.qpu_asm.specs.reader.Parts.{part_by}
+use Rattle.qpu_asm.specs.reader.Orders.{is_link, is_row, is_name, due}
+use Rattle.qpu_asm.specs.reader.SectionTokens.{SectionTokens}
+use Rattle.qpu_asm.specs.reader.Sections.{sections_of, part_after}
+use Rattle.qpu_asm.specs.reader.Marks.{mark, branch_marks, target_place, place_mark, if_link, jump_marks, jumping_marks, part_marks}
+use Rattle.qpu_asm.specs.reader.Judging.{cross}
+use Rattle.qpu_asm.specs.reader.Meanings.{branch_condition_in, place_of, distance, target_row, row_part, first_told, link_in, branch_of_part, meaning}
 use Rattle.qpu_asm.specs.Laws.{symbols_of}
-use Rattle.qpu_asm.specs.LinesRead.{read_line}
-use Rattle.qpu_asm.specs.SpelledPieces.{name_alone, SpellsNumber, SpellsTarget, is_dropped, SpellsBranchCondition, IsName, SpellsJump, way}
+use Rattle.qpu_asm.specs.reader.LinesRead.{read_line}
+use Rattle.qpu_asm.specs.SpelledPieces.{name_alone, SpellsNumber, SpellsTarget, is_nowhere, SpellsBranchCondition, IsName, SpellsJump, way}
 use Rattle.qpu_asm.specs.SpelledPieces.IsName.{known, unknown}
 use Rattle.qpu_asm.specs.SpelledPieces.SpellsNumber.{number}
 use Rattle.qpu_asm.specs.SpelledPieces.SpellsTarget.{nowhere, named as target_named}
 use Rattle.qpu_asm.specs.SpelledPieces.SpellsBranchCondition.{always, given}
 use Rattle.qpu_asm.specs.SpelledPieces.SpellsJump.{number as jump_number, label as jump_label, row as jump_row}
-use Rattle.qpu_asm.specs.Spells.{SpellsLinks, SpellsBranch, branch_name, behind_first, joined, names_label, label_in}
+use Rattle.qpu_asm.specs.Spells.{SpellsLinks, SpellsBranch, branch_name, behind_first, joined, is_colon, label_in}
 use Rattle.qpu_asm.specs.Spells.SpellsLinks.{none as links_none, link, adds}
 use Rattle.qpu_asm.specs.Spells.SpellsBranch.{branch}
 use Rattle.qpu_asm.proofs.AgainSpelled.{Spelled, spelled_append, spelled_map, never}
@@ -67,12 +67,12 @@ use Rattle.qpu_asm.proofs.ReadOthers.{any_more, not_false}
 abbrev pub has_label : List Placed → Bool
 has_label [] = false
 has_label (x ∷ []) = false
-has_label (x ∷ y ∷ rest) = names_label x.symbol || has_label (y ∷ rest)
+has_label (x ∷ y ∷ rest) = is_colon x.symbol || has_label (y ∷ rest)
 
 label_whole : (front more : List Placed) → has_label front ≡ true → label_in (front ++ more) ≡ label_in front
 label_whole [] more e = absurd (never e)
 label_whole (x ∷ []) more e = absurd (never e)
-label_whole (x ∷ y ∷ rest) more e = by_sign (names_label x.symbol) e (label_whole (y ∷ rest) more)
+label_whole (x ∷ y ∷ rest) more e = by_sign (is_colon x.symbol) e (label_whole (y ∷ rest) more)
   where
     by_sign : (b : Bool) → (b || has_label (y ∷ rest)) ≡ true → (has_label (y ∷ rest) ≡ true → label_in (y ∷ (rest ++ more)) ≡ label_in (y ∷ rest))
         → ◌≡◌ {A = Option ℕ} (if b then y.label else label_in (y ∷ (rest ++ more))) (if b then y.label else label_in (y ∷ rest))
@@ -81,9 +81,9 @@ label_whole (x ∷ y ∷ rest) more e = by_sign (names_label x.symbol) e (label_
 
 abbrev NoLabel : List Symbol → Type 0
 NoLabel [] = Unit {0}
-NoLabel (s ∷ ss) = (names_label s ≡ false) × NoLabel ss
+NoLabel (s ∷ ss) = (is_colon s ≡ false) × NoLabel ss
 
-skip_one : (x : Placed) (rest : List Placed) → names_label x.symbol ≡ false → has_label rest ≡ true → (has_label (x ∷ rest) ≡ true) × (label_in (x ∷ rest) ≡ label_in rest)
+skip_one : (x : Placed) (rest : List Placed) → is_colon x.symbol ≡ false → has_label rest ≡ true → (has_label (x ∷ rest) ≡ true) × (label_in (x ∷ rest) ≡ label_in rest)
 skip_one x [] e h = absurd (never h)
 skip_one x (y ∷ rest) e h = rw e (h, refl)
 
@@ -92,7 +92,7 @@ skip_all [] xs mid none h e = rw h (e, refl)
 skip_all (s ∷ ss) [] mid none h e = absurd h
 skip_all (s ∷ ss) (x ∷ xs) mid none h e =
     let r = skip_all ss xs mid none.1 h.1 e in
-    let o = skip_one x xs (ap names_label h.0 ∙ none.0) r.0 in
+    let o = skip_one x xs (ap is_colon h.0 ∙ none.0) r.0 in
     (o.0, o.1 ∙ r.1)
 
 no_label_join : (a b : List Symbol) → NoLabel a → NoLabel b → NoLabel (a ++ b)
@@ -250,7 +250,7 @@ branch_read relative at cond imm o c t x to row token end rest condition target 
 
 data AreLinks (row : Option ℕ) : List Part → Place → Option ℕ → Type 0 where
   nothing : AreLinks row [] (place.Both 39) row
-  linked : {n : Name} {t : Token} {p : Part} {ps : List Part} {to : Place} {reg : Option ℕ} → p ≡ part.Link (bare (core.Name n) t) → target_meant n ≡ Some to → is_dropped to ≡ false
+  linked : {n : Name} {t : Token} {p : Part} {ps : List Part} {to : Place} {reg : Option ℕ} → p ≡ part.Link (bare (core.Name n) t) → target_meant n ≡ Some to → is_nowhere to ≡ false
       → AreLinks row ps (place.Both 39) reg → AreLinks row (p ∷ ps) to reg
   added : {n : ℕ} {t : Token} {p : Part} {ps : List Part} {to : Place} → p ≡ part.Row (bare (core.Name (name.Register (register.RowA n))) t)
       → AreLinks row ps to None → AreLinks row (p ∷ ps) to (Some n)
@@ -296,7 +296,7 @@ record LinksRead (v : BranchPart) (row : Option ℕ) (done : List Part) (ts : Li
   are : AreLinks row parts to reg
 
 abbrev FreeLink : List Part → Place → Type 0
-FreeLink done to = is_dropped to ≡ false → list_any is_link done ≡ false
+FreeLink done to = is_nowhere to ≡ false → list_any is_link done ≡ false
 
 abbrev FreeRow : List Part → Option ℕ → Option ℕ → Type 0
 FreeRow done row None = Unit {0}
@@ -313,7 +313,7 @@ links_read v row xs to reg done [] links_none named free_l free_r real are = rec
 links_read v row xs to reg done (t ∷ ts) links_none named free_l free_r real are = absurd are
 links_read v row xs to reg done [] (link {n = n} {xs = ys} is more) named free_l free_r real are = absurd are
 links_read v row xs to reg done (t ∷ ts) (link {n = n} {xs = ys} is more) named free_l free_r real are =
-    let somewhere_to : is_dropped to ≡ false = named_there n to real.0.1.0 is in
+    let somewhere_to : is_nowhere to ≡ false = named_there n to real.0.1.0 is in
     let r = section_read (λ p. (k : Token) × (p ≡ part.Link (bare (core.Name n) k))) (symbol.Name name.Link ∷ name_alone n) (link_section n) (part.Branch v ∷ done) t are.0 (link_due v done (free_l somewhere_to)) in
     let l = links_read v row ys (place.Both 39) reg (done ++ r.0 ∷ []) ts more named (λ e. absurd (never (sym e))) (free_row done r.0 row reg (rw r.2.1 refl) free_r) real.1 are.1 in
     record { parts = r.0 ∷ l.parts; reads = (r.1, l.reads); are = linked r.2.1 is somewhere_to l.are }
@@ -392,7 +392,7 @@ first_clean g relative at cond imm to row v fits says =
     let w = clean_first g to v.to.token [] (clean_start NoTarget g) in
     rw (says.marks [], link_marked (target_place v.to.core) to v.to.token [] says.place fits, says.jump.marks (mark (what.Writes to) v.to.token [])) w
 
-rest_clean : (W : Place → Type 0) (g : Given) (row : Option ℕ) (ps : List Part) (to : Place) (reg : Option ℕ) (ms : List Mark) → AreLinks row ps to reg → is_dropped to ≡ true → Clean W g ms
+rest_clean : (W : Place → Type 0) (g : Given) (row : Option ℕ) (ps : List Part) (to : Place) (reg : Option ℕ) (ms : List Mark) → AreLinks row ps to reg → is_nowhere to ≡ true → Clean W g ms
     → Clean W g (fold (part_marks true) ms ps)
 unfolding part_marks
 rest_clean W g row ps to reg ms nothing e c = c
@@ -426,7 +426,7 @@ branch_line at b row v ps t ts is says are reads =
       says = branch_means b.relative at b.cond b.immediate b.add b.mul row b.register v ps says are;
     }
 
-name_no_label : (relative : Bool) → names_label (symbol.Name (branch_name relative)) ≡ false
+name_no_label : (relative : Bool) → is_colon (symbol.Name (branch_name relative)) ≡ false
 name_no_label relative = refl
 
 lines_are : (at : ℕ) (o : Option ℕ) (b : Branch) (c t x : List Symbol) (os : List (List Symbol)) (row : Option ℕ) (u : SectionTokens) (ts : List SectionTokens) (y : Placed) (rest : List Placed) → IsBranch b
@@ -461,7 +461,7 @@ sections_by at end xs b c t x os row (u ∷ ts) is condition target goes links r
         let tokens : k.first.tokens ≡ y ∷ rest = ap (λ (z : SectionTokens). z.tokens) head ∙ e in
         let found : has_label rest ≡ true → label_in xs ≡ label_in rest =
         λ f.
-        (let o = skip_one y rest (ap names_label h.0) f in
+        (let o = skip_one y rest (ap is_colon h.0) f in
         let has : has_label k.first.tokens ≡ true = ap has_label tokens ∙ o.0 in
         cut_label xs k.first k.more k.cut has ∙ (ap label_in tokens ∙ o.1)) in
         lines_are at (label_in xs) b c t x os row u ts y rest is condition target goes links real e h.0 h.1 are.1 found

@@ -7,7 +7,7 @@ use Rattle.qpu_line.specs.declared.symbol.Symbol.{Symbol}
 use Rattle.qpu_line.specs.Named.{HasWord}
 use Rattle.qpu_asm.specs.declared.placed.Placed.{Placed}
 use Rattle.qpu_asm.specs.declared.line.Line.TheVariants.{Says}
-use Rattle.qpu_asm.specs.LinesRead.{read_line}
+use Rattle.qpu_asm.specs.reader.LinesRead.{read_line}
 use Rattle.qpu_asm.specs.Laws.{IsProper, symbols_of}
 use Rattle.qpu_asm.specs.Spells.{SpellsParts, joined, label_in, IsSpelled}
 use Rattle.qpu_asm.specs.Spells.SpellsParts.{units, load, semaphore, branch}

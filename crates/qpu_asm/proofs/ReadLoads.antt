@@ -26,14 +26,14 @@ use Rattle.qpu_asm.specs.declared.part.Part.TheVariants as part
 use Rattle.qpu_asm.specs.declared.mark.Mark.{Mark}
 use Rattle.qpu_asm.specs.declared.line.Line.TheVariants.{Says}
 use Rattle.qpu_asm.specs.Roles.{target_meant}
-use Rattle.qpu_asm.specs.Pieces.{bare, target_core}
-use Rattle.qpu_asm.specs.SectionTokens.{SectionTokens}
-use Rattle.qpu_asm.specs.Marks.{suffix_marks, condition_marks, target_place, place_mark, somewhere, load_marks, also_marks, part_marks}
-use Rattle.qpu_asm.specs.Judging.{cross}
-use Rattle.qpu_asm.specs.Meanings.{sets_in, place_of, number_of, condition_at, write_in, also_in, load_of_part, meaning}
+use Rattle.qpu_asm.specs.reader.Pieces.{bare, target_core}
+use Rattle.qpu_asm.specs.reader.SectionTokens.{SectionTokens}
+use Rattle.qpu_asm.specs.reader.Marks.{suffix_marks, condition_marks, target_place, place_mark, somewhere, load_marks, also_marks, part_marks}
+use Rattle.qpu_asm.specs.reader.Judging.{cross}
+use Rattle.qpu_asm.specs.reader.Meanings.{sets_in, place_of, number_of, condition_at, write_in, also_in, load_of_part, meaning}
 use Rattle.qpu_asm.specs.Laws.{symbols_of}
-use Rattle.qpu_asm.specs.LinesRead.{read_line}
-use Rattle.qpu_asm.specs.SpelledPieces.{name_alone, SpellsNumber, SpellsTarget, is_dropped, SpellsCondition, SpellsFlags, written}
+use Rattle.qpu_asm.specs.reader.LinesRead.{read_line}
+use Rattle.qpu_asm.specs.SpelledPieces.{name_alone, SpellsNumber, SpellsTarget, is_nowhere, SpellsCondition, SpellsFlags, written}
 use Rattle.qpu_asm.specs.Spells.{SpellsAlso, SpellsLoad, SpellsSemaphore, behind_first, joined}
 use Rattle.qpu_asm.specs.Spells.SpellsAlso.{absent, also}
 use Rattle.qpu_asm.specs.Spells.SpellsLoad.{load}
@@ -139,7 +139,7 @@ record AlsoSays (n : Name) (to : Place) (cond : ℕ) (a : AlsoPart) : Type 0 whe
   condition : IsCondition o
   suffix : Suffixed o a.suffix
   at_cond : condition_at to a.suffix ≡ cond
-  real : is_dropped to ≡ true → to ≡ place.Both 39
+  real : is_nowhere to ≡ true → to ≡ place.Both 39
   there : somewhere a.to.core ≡ Some to
   place : target_place a.to.core ≡ Some to
 
@@ -155,7 +155,7 @@ name_read end n [] h = absurd h
 name_read end n (x ∷ rest) h =
     (x.token, target_name end x rest n h.0 (ends_stops rest (nothing_front rest h.1)) ∙ ap (λ (z : List Placed). Ok (bare (core.Name n) x.token, z)) h.1)
 
-also_section : (n : Name) (c : List Symbol) (to : Place) (cond : ℕ) → SpellsCondition c to cond → target_meant n ≡ Some to → (is_dropped to ≡ true → to ≡ place.Both 39)
+also_section : (n : Name) (c : List Symbol) (to : Place) (cond : ℕ) → SpellsCondition c to cond → target_meant n ≡ Some to → (is_nowhere to ≡ true → to ≡ place.Both 39)
     → IsSection (IsAlsoPart n to cond) (symbol.Name name.Also ∷ c ++ name_alone n)
 also_section n c to cond condition meant real =
     let cs : ConditionSaid c to cond = condition_said c to cond condition in
@@ -185,7 +185,7 @@ record AlsoRead (v : LoadPart) (ts : List SectionTokens) (mul : Option Write) : 
   reads : Reads (part.Load v ∷ []) ts parts
   are : AlsoParts parts mul
 
-also_real : (n : Name) (c : List Symbol) (to : Place) → target_meant n ≡ Some to → AreThere (symbol.Name name.Also ∷ c ++ name_alone n) → is_dropped to ≡ true → to ≡ place.Both 39
+also_real : (n : Name) (c : List Symbol) (to : Place) → target_meant n ≡ Some to → AreThere (symbol.Name name.Also ∷ c ++ name_alone n) → is_nowhere to ≡ true → to ≡ place.Both 39
 also_real n c to e real dropped =
     let own : AreThere (name_alone n) = there_right (symbol.Name name.Also ∷ c) (name_alone n) real in
     absurd (let f : true ≡ false = sym dropped ∙ named_there n to own.0 e in grind (arith, f))
@@ -253,18 +253,18 @@ also_clean : (g : Given) (p : Place) (parts : List Part) (mul : Option Write) (m
 unfolding part_marks also_marks
 also_clean g p parts mul ms no_also apart c = (Only p, c)
 also_clean g p parts mul ms (with_also {n = n} {to = to} {cond = cond} {a = a} says) apart c =
-    let whole : write_target (written to cond) ≡ to = written_by to cond (is_dropped to) says.real in
+    let whole : write_target (written to cond) ≡ to = written_by to cond (is_nowhere to) says.real in
     let clear : cross p to ≡ false = subst (λ (z : Place). cross p z ≡ false) whole apart in
     let w = clean_second (Only p) g to a.to.token ms (λ q e. subst (λ (z : Place). cross z to ≡ false) (sym e) clear) c in
     (AnyTarget, rw (condition_marked says.o a.suffix ms says.condition says.suffix, place_marked (somewhere a.to.core) to a.to.token ms says.there) w)
 
 load_line : (at : ℕ) (kind : LoadKind) (sets : Bool) (to : Place) (cond n : ℕ) (mul : Option Write) (v : LoadPart) (parts : List Part) (t : SectionTokens) (ts : List SectionTokens)
-    → IsLoad (record { kind = kind; sets = sets; add = written to cond; mul = mul; immediate = n }) → (is_dropped to ≡ true → to ≡ place.Both 39)
+    → IsLoad (record { kind = kind; sets = sets; add = written to cond; mul = mul; immediate = n }) → (is_nowhere to ≡ true → to ≡ place.Both 39)
     → LoadSays kind sets to cond n v → AlsoParts parts mul → Reads [] (t ∷ ts) (part.Load v ∷ parts)
     → IsLine at (instruction.Load (record { kind = kind; sets = sets; add = written to cond; mul = mul; immediate = n })) (t ∷ ts)
 load_line at kind sets to cond n mul v parts t ts is whole says second reads =
     let l : Load = record { kind = kind; sets = sets; add = written to cond; mul = mul; immediate = n } in
-    let add : write_target (written to cond) ≡ to = written_by to cond (is_dropped to) whole in
+    let add : write_target (written to cond) ≡ to = written_by to cond (is_nowhere to) whole in
     let apart : cross to (write_target mul) ≡ false =
     subst (λ (z : Place). cross z (write_target mul) ≡ false) add (no_cross (is_exchanged_load l) (write_target l.add) (write_target l.mul) is.add_to is.mul_to) in
     let c = also_clean nothing_given to parts mul (part_marks false [] (part.Load v)) second apart (first_clean nothing_given kind sets to cond n v says) in
@@ -278,7 +278,7 @@ load_line at kind sets to cond n mul v parts t ts is whole says second reads =
 
 lines_are : (at : ℕ) (kind : LoadKind) (c f t x : List Symbol) (xs : List (List Symbol)) (cond n : ℕ) (sets : Bool) (to : Place) (mul : Option Write) (ts : List SectionTokens)
     → IsLoad (record { kind = kind; sets = sets; add = written to cond; mul = mul; immediate = n }) → SpellsCondition c to cond → SpellsFlags f sets → SpellsTarget t to → SpellsNumber x n → SpellsAlso xs mul
-    → (is_dropped to ≡ true → to ≡ place.Both 39) → PartsThere xs → AreSections ((symbol.Name (name.Load kind) ∷ c ++ (f ++ (t ++ symbol.Comma ∷ x))) ∷ xs) ts
+    → (is_nowhere to ≡ true → to ≡ place.Both 39) → PartsThere xs → AreSections ((symbol.Name (name.Load kind) ∷ c ++ (f ++ (t ++ symbol.Comma ∷ x))) ∷ xs) ts
     → IsLine at (instruction.Load (record { kind = kind; sets = sets; add = written to cond; mul = mul; immediate = n })) ts
 unfolding load_section
 lines_are at kind c f t x xs cond n sets to mul [] is condition flags target value second whole real are = absurd are

@@ -16,14 +16,14 @@ use Rattle.qpu_line.specs.Names.{IsRowName, IsNameOfLanguage}
 use Rattle.qpu_asm.specs.declared.placed.Placed.{Placed}
 use Rattle.qpu_asm.specs.Roles.{target_meant}
 use Rattle.qpu_asm.specs.Laws.{IsProperSymbol, IsProper, symbols_of}
-use Rattle.qpu_asm.specs.SpelledPieces.{SpellsTarget, is_dropped}
+use Rattle.qpu_asm.specs.SpelledPieces.{SpellsTarget, is_nowhere}
 use Rattle.qpu_asm.specs.SpelledPieces.SpellsTarget.{nowhere, named as target_named}
 use Rattle.qpu_asm.specs.Spells.{behind_first, joined}
 use Rattle.qpu_asm.proofs.ProperParts.{Each}
 
 abbrev there : Option Place → Bool
 there None = true
-there (Some to) = not (is_dropped to)
+there (Some to) = not (is_nowhere to)
 
 abbrev pub is_somewhere : Name → Bool
 is_somewhere n = there (target_meant n)
@@ -83,13 +83,13 @@ not_not : (b : Bool) → not b ≡ true → b ≡ false
 not_not true h = absurd (grind (arith, h))
 not_not false h = refl
 
-pub named_there : (n : Name) (to : Place) → is_somewhere n ≡ true → target_meant n ≡ Some to → is_dropped to ≡ false
+pub named_there : (n : Name) (to : Place) → is_somewhere n ≡ true → target_meant n ≡ Some to → is_nowhere to ≡ false
 named_there n to h e = by_there (target_meant n) h e
   where
-    by_there : (o : Option Place) → there o ≡ true → o ≡ Some to → is_dropped to ≡ false
+    by_there : (o : Option Place) → there o ≡ true → o ≡ Some to → is_nowhere to ≡ false
     by_there None h e = absurd (grind (arith, e))
-    by_there (Some p) h e = let same : p ≡ to = cc in let q : not (is_dropped to) ≡ true = subst (λ (z : Place). not (is_dropped z) ≡ true) same h in not_not (is_dropped to) q
+    by_there (Some p) h e = let same : p ≡ to = cc in let q : not (is_nowhere to) ≡ true = subst (λ (z : Place). not (is_nowhere z) ≡ true) same h in not_not (is_nowhere to) q
 
-pub target_there : (t : List Symbol) (to : Place) → AreThere t → SpellsTarget t to → is_dropped to ≡ true → to ≡ place.Both 39
+pub target_there : (t : List Symbol) (to : Place) → AreThere t → SpellsTarget t to → is_nowhere to ≡ true → to ≡ place.Both 39
 target_there t to h nowhere e = refl
 target_there t to h (target_named {n = n} is) e = absurd (let f : true ≡ false = sym e ∙ named_there n to h.0 is in grind (arith, f))

@@ -22,12 +22,12 @@ use Rattle.qpu_asm.specs.declared.piece.Piece.{Piece}
 use Rattle.qpu_asm.specs.declared.part.Suffixes.{Suffixes}
 use Rattle.qpu_asm.specs.declared.mark.What.TheVariants as what
 use Rattle.qpu_asm.specs.declared.mark.Mark.{Mark}
-use Rattle.qpu_asm.specs.Pieces.{alone, bare, length_of, value_of_length, target_core, value_core, operand_core, has_dot, suffix_at, operand_at}
-use Rattle.qpu_asm.specs.Parts.{suffixes_at}
+use Rattle.qpu_asm.specs.reader.Pieces.{alone, bare, length_of, value_of_length, target_core, value_core, operand_core, has_dot, suffix_at, operand_at}
+use Rattle.qpu_asm.specs.reader.Parts.{suffixes_at}
 use Rattle.qpu_asm.specs.Roles.{source_of, pack_of, unpack_of}
-use Rattle.qpu_asm.specs.Marks.{mark, code_of, suffix_marks, target_place, fixed, pack_marks, unpack_marks, source_marks, number_marks, operand_marks}
-use Rattle.qpu_asm.specs.Meanings.{sets_in, pack_in, unpack_in, with_unpack, operand_of, condition_at, is_nowhere}
-use Rattle.qpu_asm.specs.SpelledPieces.{dotted, SpellsNumber, SpellsTarget, SpellsCondition, SpellsFlags, SpellsPack, SpellsOperand}
+use Rattle.qpu_asm.specs.reader.Marks.{mark, code_of, suffix_marks, target_place, fixed, pack_marks, unpack_marks, source_marks, number_marks, operand_marks}
+use Rattle.qpu_asm.specs.reader.Meanings.{sets_in, pack_in, unpack_in, with_unpack, operand_of, condition_at}
+use Rattle.qpu_asm.specs.SpelledPieces.{dotted, SpellsNumber, SpellsTarget, SpellsCondition, SpellsFlags, SpellsPack, SpellsOperand, is_nowhere}
 use Rattle.qpu_asm.specs.SpelledPieces.SpellsNumber.{number}
 use Rattle.qpu_asm.specs.SpelledPieces.SpellsTarget.{nowhere, named as target_named}
 use Rattle.qpu_asm.specs.SpelledPieces.SpellsCondition.{always, given, dropped}

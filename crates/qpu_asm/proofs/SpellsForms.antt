@@ -24,15 +24,15 @@ use Rattle.qpu_asm.specs.declared.part.Part.{Part}
 use Rattle.qpu_asm.specs.declared.part.Part.TheVariants as part
 use Rattle.qpu_asm.specs.declared.mark.What.{What}
 use Rattle.qpu_asm.specs.declared.mark.What.TheVariants as what
-use Rattle.qpu_asm.specs.Orders.{is_link, is_row, is_name, load_follows, branch_follows, follows}
-use Rattle.qpu_asm.specs.SectionTokens.{SectionTokens}
-use Rattle.qpu_asm.specs.Marks.{suffix_marks, condition_marks, branch_marks, target_place, place_mark, somewhere, if_link, any_number, load_marks, also_marks, jump_marks, jumping_marks, is_row_name, part_marks, marks_of}
-use Rattle.qpu_asm.specs.Meanings.{sets_in, nowhere_place, place_of, number_of, write_in, also_in, load_of_part, distance, first_told, target_row, row_part, link_in, branch_of_part, step}
+use Rattle.qpu_asm.specs.reader.Orders.{is_link, is_row, is_name, load_follows, branch_follows, follows}
+use Rattle.qpu_asm.specs.reader.SectionTokens.{SectionTokens}
+use Rattle.qpu_asm.specs.reader.Marks.{suffix_marks, condition_marks, branch_marks, target_place, place_mark, somewhere, if_link, any_number, load_marks, also_marks, jump_marks, jumping_marks, is_row_name, part_marks, marks_of}
+use Rattle.qpu_asm.specs.reader.Meanings.{sets_in, nowhere_place, place_of, number_of, write_in, also_in, load_of_part, distance, first_told, target_row, row_part, link_in, branch_of_part, step}
 use Rattle.qpu_asm.specs.Laws.{symbols_of}
 use Rattle.qpu_asm.specs.SpelledPieces.{name_alone, SpellsTarget, SpellsJump}
 use Rattle.qpu_asm.specs.SpelledPieces.SpellsTarget.{nowhere, named as target_named}
 use Rattle.qpu_asm.specs.SpelledPieces.SpellsJump.{number, label, row}
-use Rattle.qpu_asm.specs.Spells.{SpellsAlso, SpellsLoad, SpellsSemaphore, SpellsLinks, SpellsBranch, branch_name, names_label, label_in}
+use Rattle.qpu_asm.specs.Spells.{SpellsAlso, SpellsLoad, SpellsSemaphore, SpellsLinks, SpellsBranch, branch_name, is_colon, label_in}
 use Rattle.qpu_asm.specs.Spells.SpellsAlso.{absent, also}
 use Rattle.qpu_asm.specs.Spells.SpellsLoad.{load}
 use Rattle.qpu_asm.specs.Spells.SpellsSemaphore.{increment, decrement}
@@ -294,7 +294,7 @@ links_spelled b done (s ∷ ss) (p ∷ later) told right =
 
 abbrev NoLabel : List Symbol → Type 0
 NoLabel [] = Unit {0}
-NoLabel (s ∷ ss) = (names_label s ≡ false) × NoLabel ss
+NoLabel (s ∷ ss) = (is_colon s ≡ false) × NoLabel ss
 
 no_label_join : (a b : List Symbol) → NoLabel a → NoLabel b → NoLabel (a ++ b)
 no_label_join [] b one other = other
@@ -304,7 +304,7 @@ suffix_no_label : (s : Option Suffix) → NoLabel (suffix_symbols s)
 suffix_no_label None = tt
 suffix_no_label (Some s) = (refl, (by_name s.name, tt))
   where
-    by_name : (n : Option Name) → names_label (named_symbol n) ≡ false
+    by_name : (n : Option Name) → is_colon (named_symbol n) ≡ false
     by_name None = refl
     by_name (Some n) = refl
 
@@ -312,20 +312,20 @@ target_no_label : (t : List Symbol) (to : Place) → SpellsTarget t to → NoLab
 target_no_label t to nowhere = (refl, tt)
 target_no_label t to (target_named e) = (refl, tt)
 
-label_skip : (x : Placed) (rest : List Placed) → names_label x.symbol ≡ false → label_in (x ∷ rest) ≡ label_in rest
+label_skip : (x : Placed) (rest : List Placed) → is_colon x.symbol ≡ false → label_in (x ∷ rest) ≡ label_in rest
 label_skip x [] e = refl
 label_skip x (y ∷ rest) e = rw e refl
 
 labels_skip : (ss : List Symbol) (xs mid : List Placed) → NoLabel ss → Spelled ss xs mid → label_in xs ≡ label_in mid
 labels_skip [] xs mid none h = ap label_in h
 labels_skip (s ∷ ss) [] mid none h = absurd h
-labels_skip (s ∷ ss) (x ∷ xs) mid none h = label_skip x xs (ap names_label h.0 ∙ none.0) ∙ labels_skip ss xs mid none.1 h.1
+labels_skip (s ∷ ss) (x ∷ xs) mid none h = label_skip x xs (ap is_colon h.0 ∙ none.0) ∙ labels_skip ss xs mid none.1 h.1
 
 jump_label : (b : BranchPart) (s : SectionTokens) (h : SectionTold [] s.tokens (part.Branch b)) (to : Place) → SpellsTarget h.told.t to → label_in s.tokens ≡ label_in h.told.jump
 jump_label b s h to target =
     let own : NoLabel (suffix_symbols b.suffix ++ (h.told.t ++ symbol.Comma ∷ [])) =
     no_label_join (suffix_symbols b.suffix) (h.told.t ++ symbol.Comma ∷ []) (suffix_no_label b.suffix) (no_label_join h.told.t (symbol.Comma ∷ []) (target_no_label h.told.t to target) (refl, tt)) in
-    ap label_in h.whole ∙ (label_skip h.x h.rest (ap names_label h.is) ∙ labels_skip _ h.rest h.told.jump own h.told.behind)
+    ap label_in h.whole ∙ (label_skip h.x h.rest (ap is_colon h.is) ∙ labels_skip _ h.rest h.told.jump own h.told.behind)
 
 pub branch_spelled_whole : (at : ℕ) (o : Option ℕ) (b : BranchPart) (s : SectionTokens) (ss : List SectionTokens) (later : List Part) (h : SectionTold [] s.tokens (part.Branch b))
     → AllTold (part.Branch b ∷ []) ss later → ((word : ℕ) → label_in s.tokens ≡ Some word → o ≡ Some word) → IsClear (marks_of (part.Branch b ∷ later))

@@ -13,11 +13,11 @@ use Rattle.qpu_asm.specs.declared.part.Part.{Part}
 use Rattle.qpu_asm.specs.declared.part.Part.TheVariants as part
 use Rattle.qpu_asm.specs.declared.line.Line.TheVariants.{Says}
 use Rattle.qpu_asm.specs.Roles.{op_in_mul}
-use Rattle.qpu_asm.specs.Orders.{begins, is_nop, extra, unit_follows, due}
-use Rattle.qpu_asm.specs.SectionTokens.{SectionTokens}
-use Rattle.qpu_asm.specs.Marks.{marks_of}
-use Rattle.qpu_asm.specs.Meanings.{meaning}
-use Rattle.qpu_asm.specs.LinesRead.{read_line}
+use Rattle.qpu_asm.specs.reader.Orders.{begins, is_nop, extra, unit_follows, due}
+use Rattle.qpu_asm.specs.reader.SectionTokens.{SectionTokens}
+use Rattle.qpu_asm.specs.reader.Marks.{marks_of}
+use Rattle.qpu_asm.specs.reader.Meanings.{meaning}
+use Rattle.qpu_asm.specs.reader.LinesRead.{read_line}
 use Rattle.qpu_asm.specs.Laws.{IsProper, symbols_of}
 use Rattle.qpu_asm.specs.SpelledPieces.{name_alone}
 use Rattle.qpu_asm.specs.Spells.{SpellsAdd, SpellsParts, label_in, IsSpelled}

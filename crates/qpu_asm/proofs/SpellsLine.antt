@@ -13,18 +13,18 @@ use Rattle.qpu_asm.specs.declared.placed.Placed.{Placed}
 use Rattle.qpu_asm.specs.declared.part.Part.{Part}
 use Rattle.qpu_asm.specs.declared.line.Line.{Line}
 use Rattle.qpu_asm.specs.declared.line.Line.TheVariants.{Raw, Says}
-use Rattle.qpu_asm.specs.Pieces.{is_dot, is_colon}
-use Rattle.qpu_asm.specs.Reading.{go_on}
-use Rattle.qpu_asm.specs.Parts.{part_by}
-use Rattle.qpu_asm.specs.Orders.{due}
-use Rattle.qpu_asm.specs.SectionTokens.{SectionTokens}
-use Rattle.qpu_asm.specs.Sections.{is_semicolon, Cutting, put_section, cut_on, sections_of, unknown_in, first_of, part_after_symbol, part_after, parts_on, parts_of}
-use Rattle.qpu_asm.specs.Marks.{marks_of}
-use Rattle.qpu_asm.specs.Judging.{line_fault}
-use Rattle.qpu_asm.specs.Meanings.{meaning}
-use Rattle.qpu_asm.specs.LinesRead.{directive, by_fault, by_parts, by_unknown, instruction_line, shaped, read_line}
+use Rattle.qpu_asm.specs.reader.Pieces.{is_dot}
+use Rattle.qpu_asm.specs.reader.Reading.{go_on}
+use Rattle.qpu_asm.specs.reader.Parts.{part_by}
+use Rattle.qpu_asm.specs.reader.Orders.{due}
+use Rattle.qpu_asm.specs.reader.SectionTokens.{SectionTokens}
+use Rattle.qpu_asm.specs.reader.Sections.{is_semicolon, Cutting, put_section, cut_on, sections_of, unknown_in, first_of, part_after_symbol, part_after, parts_on, parts_of}
+use Rattle.qpu_asm.specs.reader.Marks.{marks_of}
+use Rattle.qpu_asm.specs.reader.Judging.{line_fault}
+use Rattle.qpu_asm.specs.reader.Meanings.{meaning}
+use Rattle.qpu_asm.specs.reader.LinesRead.{directive, by_fault, by_parts, by_unknown, instruction_line, shaped, read_line}
 use Rattle.qpu_asm.specs.Laws.{symbols_of}
-use Rattle.qpu_asm.specs.Spells.{joined, names_label, label_in}
+use Rattle.qpu_asm.specs.Spells.{joined, is_colon, label_in}
 use Rattle.qpu_asm.proofs.ProperParts.{Good, GivesPart}
 use Rattle.qpu_asm.proofs.ProperLines.{GoodParts, line_good}
 use Rattle.qpu_asm.proofs.LineLaw.{IsRaw, raw_directive}
@@ -92,7 +92,7 @@ cut_joined xs first (next ∷ more) (x, rest, e, semicolon, cut) =
 label_on : (front more : List Placed) (word : ℕ) → label_in front ≡ Some word → label_in (front ++ more) ≡ Some word
 label_on [] more word e = absurd (grind (arith, e))
 label_on (x ∷ []) more word e = absurd (grind (arith, e))
-label_on (x ∷ y ∷ rest) more word e = by_colon (names_label x.symbol) e (label_on (y ∷ rest) more word)
+label_on (x ∷ y ∷ rest) more word e = by_colon (is_colon x.symbol) e (label_on (y ∷ rest) more word)
   where
     by_colon : (b : Bool) → (if b then y.label else label_in (y ∷ rest)) ≡ Some word → (label_in (y ∷ rest) ≡ Some word → label_in (y ∷ (rest ++ more)) ≡ Some word)
         → (if b then y.label else label_in (y ∷ (rest ++ more))) ≡ Some word

@@ -27,9 +27,9 @@ use Rattle.qpu_asm.specs.declared.mark.What.{What}
 use Rattle.qpu_asm.specs.declared.mark.What.TheVariants as what
 use Rattle.qpu_asm.specs.declared.mark.Mark.{Mark}
 use Rattle.qpu_asm.specs.Roles.{target_meant, source_of, pack_of}
-use Rattle.qpu_asm.specs.Marks.{mark, mark_if, code_of, first_suffix, second_suffix, suffix_marks, condition_marks, branch_marks, no_suffix, target_place, place_mark, is_pack, is_row, pack_marks, somewhere, if_link, fixed, unpack_name, unpack_mark, unpack_marks, source_marks, operand_marks, any_number, number_between}
-use Rattle.qpu_asm.specs.Meanings.{condition_in, branch_condition_in, sets_in, pack_name, pack_in, unpack_in, nowhere_place, place_of, is_nowhere, number_of, with_unpack, operand_of, condition_at, write_in}
-use Rattle.qpu_asm.specs.SpelledPieces.{name_alone, dotted, SpellsNumber, SpellsTarget, is_dropped, SpellsCondition, SpellsFlags, SpellsBranchCondition, SpellsPack, SpellsOperand, SpellsOperands, written}
+use Rattle.qpu_asm.specs.reader.Marks.{mark, mark_if, code_of, first_suffix, second_suffix, suffix_marks, condition_marks, branch_marks, no_suffix, target_place, place_mark, is_pack, is_row, pack_marks, somewhere, if_link, fixed, unpack_name, unpack_mark, unpack_marks, source_marks, operand_marks, any_number, number_between}
+use Rattle.qpu_asm.specs.reader.Meanings.{condition_in, branch_condition_in, sets_in, pack_name, pack_in, unpack_in, nowhere_place, place_of, number_of, with_unpack, operand_of, condition_at, write_in}
+use Rattle.qpu_asm.specs.SpelledPieces.{name_alone, dotted, SpellsNumber, SpellsTarget, is_nowhere, SpellsCondition, SpellsFlags, SpellsBranchCondition, SpellsPack, SpellsOperand, SpellsOperands, written}
 use Rattle.qpu_asm.specs.SpelledPieces.SpellsNumber.{number}
 use Rattle.qpu_asm.specs.SpelledPieces.SpellsTarget.{nowhere, named as target_named}
 use Rattle.qpu_asm.specs.SpelledPieces.SpellsCondition.{always, given, dropped}
@@ -56,7 +56,7 @@ spares_new w f g grows h = λ has. h (grown_new g grows w (f []) has)
 
 -- suffixes of mnemonics
 
-given_by : (to : Place) (cond : ℕ) (b : Bool) → is_dropped to ≡ b → SpellsCondition (dotted (name.Condition cond)) to (if b then 1 else cond)
+given_by : (to : Place) (cond : ℕ) (b : Bool) → is_nowhere to ≡ b → SpellsCondition (dotted (name.Condition cond)) to (if b then 1 else cond)
 given_by to cond true e = dropped e
 given_by to cond false e = given e
 
@@ -83,20 +83,20 @@ dot_name dot n = record { dot = dot; name = n }
 
 one_suffix : (mul : Bool) (dot : Token) (n : Option Name) → Spares what.Wrong (first_suffix mul (Some (dot_name dot n))) → MnemonicSpelled (record { first = Some (dot_name dot n); second = None })
 one_suffix mul dot (Some (name.Condition n)) h =
-    record { c = dotted (name.Condition n); f = []; whole = refl; condition = λ to. given_by to n (is_dropped to) refl; flags = kept }
-one_suffix mul dot (Some name.SetFlags) h = record { c = []; f = dotted name.SetFlags; whole = refl; condition = λ to. always_by to (is_dropped to); flags = set }
+    record { c = dotted (name.Condition n); f = []; whole = refl; condition = λ to. given_by to n (is_nowhere to) refl; flags = kept }
+one_suffix mul dot (Some name.SetFlags) h = record { c = []; f = dotted name.SetFlags; whole = refl; condition = λ to. always_by to (is_nowhere to); flags = set }
 one_suffix mul dot _ h = absurd (h (inl refl))
 
 two_suffixes : (mul : Bool) (dot other : Token) (n m : Option Name)
     → Spares what.Wrong (λ ms. second_suffix mul (Some (dot_name dot n)) (Some (dot_name other m)) (first_suffix mul (Some (dot_name dot n)) ms))
     → MnemonicSpelled (record { first = Some (dot_name dot n); second = Some (dot_name other m) })
 two_suffixes mul dot other (Some (name.Condition n)) (Some name.SetFlags) h =
-    record { c = dotted (name.Condition n); f = dotted name.SetFlags; whole = refl; condition = λ to. given_by to n (is_dropped to) refl; flags = set }
+    record { c = dotted (name.Condition n); f = dotted name.SetFlags; whole = refl; condition = λ to. given_by to n (is_nowhere to) refl; flags = set }
 two_suffixes mul dot other (Some (name.Condition n)) _ h = absurd (h (inl refl))
 two_suffixes mul dot other n m h = absurd (h (has_right what.Wrong (first_suffix mul (Some (dot_name dot n)) []) (record { what = what.Wrong; token = other } ∷ []) (inl refl)))
 
 suffixes_by : (mul : Bool) (a b : Option Suffix) → Spares what.Wrong (λ ms. second_suffix mul a b (first_suffix mul a ms)) → MnemonicSpelled (record { first = a; second = b })
-suffixes_by mul None None h = record { c = []; f = []; whole = refl; condition = λ to. always_by to (is_dropped to); flags = kept }
+suffixes_by mul None None h = record { c = []; f = []; whole = refl; condition = λ to. always_by to (is_nowhere to); flags = kept }
 suffixes_by mul None (Some t) h = absurd (h (inl refl))
 suffixes_by mul (Some s) None h = one_suffix mul s.dot s.name h
 suffixes_by mul (Some s) (Some t) h = two_suffixes mul s.dot t.dot s.name t.name h
@@ -107,11 +107,11 @@ mnemonic_spelled mul s h = suffixes_by mul s.first s.second h
 
 condition_by : (dot : Token) (n : Option Name) (to : Place) → Spares what.Wrong (condition_marks (Some (dot_name dot n)))
     → SpellsCondition (suffix_symbols (Some (dot_name dot n))) to (condition_at to (Some (dot_name dot n)))
-condition_by dot (Some (name.Condition n)) to h = given_by to n (is_dropped to) refl
+condition_by dot (Some (name.Condition n)) to h = given_by to n (is_nowhere to) refl
 condition_by dot _ to h = absurd (h (inl refl))
 
 pub condition_spelled : (s : Option Suffix) (to : Place) → Spares what.Wrong (condition_marks s) → SpellsCondition (suffix_symbols s) to (condition_at to s)
-condition_spelled None to h = always_by to (is_dropped to)
+condition_spelled None to h = always_by to (is_nowhere to)
 condition_spelled (Some s) to h = condition_by s.dot s.name to h
 
 branch_by : (dot : Token) (n : Option Name) → Spares what.Wrong (branch_marks (Some (dot_name dot n)))

@@ -20,13 +20,13 @@ use Rattle.qpu_line.specs.declared.symbol.Symbol.TheVariants as symbol
 use Rattle.qpu_asm.specs.declared.placed.Placed.{Placed}
 use Rattle.qpu_asm.specs.declared.line.Line.{Line}
 use Rattle.qpu_asm.specs.declared.line.Line.TheVariants.{Says}
-use Rattle.qpu_asm.specs.LinesRead.{read_line, instruction_line}
-use Rattle.qpu_asm.specs.Sections.{sections_of, parts_of}
-use Rattle.qpu_asm.specs.Orders.{due}
-use Rattle.qpu_asm.specs.Parts.{suffixes_at, two_operands, unit_part, branch_part, last_value, part_by}
-use Rattle.qpu_asm.specs.Pieces.{target_core, value_core, jump_core, operand_core, target_at, operand_at}
-use Rattle.qpu_asm.specs.Marks.{code_of, suffix_marks, target_marks, operand_marks, unit_marks, jumping_marks, part_marks, marks_of}
-use Rattle.qpu_asm.specs.Judging.{fault_of_kind, line_fault}
+use Rattle.qpu_asm.specs.reader.LinesRead.{read_line, instruction_line}
+use Rattle.qpu_asm.specs.reader.Sections.{sections_of, parts_of}
+use Rattle.qpu_asm.specs.reader.Orders.{due}
+use Rattle.qpu_asm.specs.reader.Parts.{suffixes_at, two_operands, unit_part, branch_part, last_value, part_by}
+use Rattle.qpu_asm.specs.reader.Pieces.{target_core, value_core, jump_core, operand_core, target_at, operand_at}
+use Rattle.qpu_asm.specs.reader.Marks.{code_of, suffix_marks, target_marks, operand_marks, unit_marks, jumping_marks, part_marks, marks_of}
+use Rattle.qpu_asm.specs.reader.Judging.{fault_of_kind, line_fault}
 use Rattle.qpu_asm.specs.SpelledPieces.IsName.{unknown}
 use Rattle.qpu_asm.specs.SpelledPieces.SpellsNumber.{number}
 use Rattle.qpu_asm.specs.SpelledPieces.SpellsTarget.{nowhere, named as target_named}

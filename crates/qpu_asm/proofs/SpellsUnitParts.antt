@@ -9,8 +9,8 @@ use Rattle.qpu_asm.specs.declared.part.UnitPart.{UnitPart}
 use Rattle.qpu_asm.specs.declared.mark.What.{What}
 use Rattle.qpu_asm.specs.declared.mark.What.TheVariants as what
 use Rattle.qpu_asm.specs.Roles.{takes_one}
-use Rattle.qpu_asm.specs.Marks.{mark_if, suffix_marks, target_place, place_mark, pack_marks, target_marks, operand_marks, unit_marks}
-use Rattle.qpu_asm.specs.Meanings.{sets_in, place_of, unit_of}
+use Rattle.qpu_asm.specs.reader.Marks.{mark_if, suffix_marks, target_place, place_mark, pack_marks, target_marks, operand_marks, unit_marks}
+use Rattle.qpu_asm.specs.reader.Meanings.{sets_in, place_of, unit_of}
 use Rattle.qpu_asm.specs.Laws.{symbols_of}
 use Rattle.qpu_asm.specs.Spells.{SpellsUnit}
 use Rattle.qpu_asm.specs.Spells.SpellsUnit.{unit}

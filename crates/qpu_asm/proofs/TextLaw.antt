@@ -9,7 +9,7 @@ use Rattle.qpu_expr.specs.Expansion.{Left, expansion}
 use Rattle.qpu_asm.specs.declared.line.Line.{Line}
 use Rattle.qpu_asm.specs.declared.line.Line.TheVariants.{Raw, Says}
 use Rattle.qpu_asm.specs.Placed.{Labels}
-use Rattle.qpu_asm.specs.LinesRead.{word_in}
+use Rattle.qpu_asm.specs.reader.LinesRead.{word_in}
 use Rattle.qpu_asm.specs.Assembly.{and_then, closing_token, line_at, words_of_lines, encoding, labels_of, IsAssembly, AreWords}
 use Rattle.qpu_asm.specs.SpelledTexts.{SpellsWord, placed_line, SpellWords, SpellsText, AreSpelled}
 use Rattle.qpu_asm.specs.SpelledTexts.SpellsWord.{raw, says}

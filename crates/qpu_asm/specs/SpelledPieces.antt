@@ -35,14 +35,14 @@ pub data SpellsTarget : List Symbol → Place → Type 0 where
 
 -- suffixes of mnemonics
 
-abbrev pub is_dropped : Place → Bool
-is_dropped to = address_of to == NOWHERE
+abbrev pub is_nowhere : Place → Bool
+is_nowhere to = address_of to == NOWHERE
 
 -- when it is written; at `-` a condition is dropped
 pub data SpellsCondition : List Symbol → Place → ℕ → Type 0 where
   always : {to : Place} → SpellsCondition [] to 1
-  given : {to : Place} {cond : ℕ} → is_dropped to ≡ false → SpellsCondition (dotted (name.Condition cond)) to cond
-  dropped : {to : Place} {cond : ℕ} → is_dropped to ≡ true → SpellsCondition (dotted (name.Condition cond)) to 1
+  given : {to : Place} {cond : ℕ} → is_nowhere to ≡ false → SpellsCondition (dotted (name.Condition cond)) to cond
+  dropped : {to : Place} {cond : ℕ} → is_nowhere to ≡ true → SpellsCondition (dotted (name.Condition cond)) to 1
 
 -- whether flags are set
 pub data SpellsFlags : List Symbol → Bool → Type 0 where
@@ -75,7 +75,7 @@ pub data SpellsOperands : Bool → List Symbol → Operand → Operand → Type 
 
 -- what a load writes to a target: nothing at `-`
 abbrev pub written : Place → ℕ → Option Write
-written to cond = if is_dropped to then None else Some (record { cond = cond; to = to })
+written to cond = if is_nowhere to then None else Some (record { cond = cond; to = to })
 
 -- where a branch goes
 

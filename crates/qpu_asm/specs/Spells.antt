@@ -160,14 +160,14 @@ pub record Spells (at : ℕ) (label : Option ℕ) (line : List Symbol) (i : Inst
 
 -- the word of the label behind a line's first sign `:`
 
-abbrev pub names_label : Symbol → Bool
-names_label symbol.Colon = true
-names_label _ = false
+abbrev pub is_colon : Symbol → Bool
+is_colon symbol.Colon = true
+is_colon _ = false
 
 abbrev pub label_in : List Placed → Option ℕ
 label_in [] = None
 label_in (x ∷ []) = None
-label_in (x ∷ y ∷ rest) = if names_label x.symbol then y.label else label_in (y ∷ rest)
+label_in (x ∷ y ∷ rest) = if is_colon x.symbol then y.label else label_in (y ∷ rest)
 
 -- the tokens of a line at a place of a program spell an instruction
 abbrev pub IsSpelled : ℕ → List Placed → Instruction → Type 0

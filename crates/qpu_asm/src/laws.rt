@@ -11,7 +11,7 @@ ghost use Rattle.qpu_line.specs.Named.{HasWord};
 ghost use Rattle.qpu_asm.specs.declared.placed.Placed.{Placed as PlacedOf};
 ghost use Rattle.qpu_asm.specs.declared.line.Line.TheVariants.{Raw, Says};
 ghost use Rattle.qpu_asm.specs.Placed.{placed_token, Labels};
-ghost use Rattle.qpu_asm.specs.LinesRead.{read_line};
+ghost use Rattle.qpu_asm.specs.reader.LinesRead.{read_line};
 ghost use Rattle.qpu_asm.specs.Assembly.{IsAssembly};
 ghost use Rattle.qpu_asm.specs.Laws.{IsProper, symbols_of, word_symbols};
 ghost use Rattle.qpu_asm.specs.Spells.{Spells, IsSpelled};
