@@ -24,13 +24,13 @@ use Rattle.qpu_asm.specs.declared.part.UnitPart.{UnitPart}
 use Rattle.qpu_asm.specs.declared.part.Part.{Part}
 use Rattle.qpu_asm.specs.declared.part.Part.TheVariants as part
 use Rattle.qpu_asm.specs.declared.mark.Mark.{Mark}
-use Rattle.qpu_asm.specs.Pieces.{bare}
-use Rattle.qpu_asm.specs.Parts.{last_value, last_name, unit_part, part_by}
-use Rattle.qpu_asm.specs.Orders.{extra, follows, is_empty, second}
+use Rattle.qpu_asm.specs.reader.Pieces.{bare}
+use Rattle.qpu_asm.specs.reader.Parts.{last_value, last_name, unit_part, part_by}
+use Rattle.qpu_asm.specs.reader.Orders.{extra, follows, is_empty, second}
 use Rattle.qpu_asm.specs.Roles.{op_in_add, op_in_mul, is_mnemonic}
-use Rattle.qpu_asm.specs.SectionTokens.{SectionTokens}
-use Rattle.qpu_asm.specs.Marks.{rotation_marks}
-use Rattle.qpu_asm.specs.Meanings.{rotation_of}
+use Rattle.qpu_asm.specs.reader.SectionTokens.{SectionTokens}
+use Rattle.qpu_asm.specs.reader.Marks.{rotation_marks}
+use Rattle.qpu_asm.specs.reader.Meanings.{rotation_of}
 use Rattle.qpu_asm.proofs.AgainSpelled.{Spelled, symbols_append, never}
 use Rattle.qpu_asm.proofs.AgainUnits.{SaysUnit, unit_bits, part_bits_are, unit_read}
 use Rattle.qpu_asm.proofs.AgainSections.{Plain, AllPlain, AllBegin, tails, tails_append, AreSections, Reads}
@@ -65,7 +65,7 @@ pub head_symbols : (sets : Bool) (o : Option UnitDoes) → symbols_of (add_bits 
 head_symbols sets None = refl
 head_symbols sets (Some p) = ap symbols_of (part_bits_are (add_name (add_op p.op)) (is_unary p.op) sets p)
 
-nop_step : (token end : Token) (xs : List Placed) → xs ≡ [] → part_by name.Nop token end xs ≡ Ok part.Nop
+pub nop_step : (token end : Token) (xs : List Placed) → xs ≡ [] → part_by name.Nop token end xs ≡ Ok part.Nop
 unfolding part_by
 nop_step token end xs e = rw e refl
 
@@ -106,7 +106,7 @@ pub head_extra : (f : Option UnitPart) (later : List Part) (n : Name) → extra 
 head_extra None later n e = or_true (is_empty later && second true n) (extra later n) e
 head_extra (Some v) later n e = or_true (is_empty later && second false n) (extra later n) e
 
-head_mul : (f : Option UnitPart) (n : Name) (c : ℕ) → op_in_mul n ≡ Some c → follows (head_part f) [] n ≡ true
+pub head_mul : (f : Option UnitPart) (n : Name) (c : ℕ) → op_in_mul n ≡ Some c → follows (head_part f) [] n ≡ true
 head_mul None n c e = rw e refl
 head_mul (Some v) n c e = rw e refl
 
@@ -180,26 +180,26 @@ signal_tails Load0 = refl
 signal_tails Load1 = refl
 signal_tails (Rotate code) = behind_symbols (Word name.Rotate ∷ Space ∷ turn_bit (code == 48) code ∷ [])
 
-end_step : (token end : Token) (xs : List Placed) → xs ≡ [] → part_by name.End token end xs ≡ Ok (part.Signal End token)
+pub end_step : (token end : Token) (xs : List Placed) → xs ≡ [] → part_by name.End token end xs ≡ Ok (part.Signal End token)
 unfolding part_by
 end_step token end xs e = rw e refl
 
-load0_step : (token end : Token) (xs : List Placed) → xs ≡ [] → part_by name.Load0 token end xs ≡ Ok (part.Signal Load0 token)
+pub load0_step : (token end : Token) (xs : List Placed) → xs ≡ [] → part_by name.Load0 token end xs ≡ Ok (part.Signal Load0 token)
 unfolding part_by
 load0_step token end xs e = rw e refl
 
-load1_step : (token end : Token) (xs : List Placed) → xs ≡ [] → part_by name.Load1 token end xs ≡ Ok (part.Signal Load1 token)
+pub load1_step : (token end : Token) (xs : List Placed) → xs ≡ [] → part_by name.Load1 token end xs ≡ Ok (part.Signal Load1 token)
 unfolding part_by
 load1_step token end xs e = rw e refl
 
-rotate_step : (token end : Token) (xs : List Placed) (p : Piece) → last_value end xs ≡ Ok p → part_by name.Rotate token end xs ≡ Ok (part.Rotate token p)
+pub rotate_step : (token end : Token) (xs : List Placed) (p : Piece) → last_value end xs ≡ Ok p → part_by name.Rotate token end xs ≡ Ok (part.Rotate token p)
 unfolding part_by
 rotate_step token end xs p e = rw e refl
 
 says_r5 : (code : ℕ) (t : Token) → (code == 48) ≡ true → SaysRotation code (bare (core.Name (name.Register (register.Accumulator 5))) t)
 says_r5 code t e = let is : 48 ≡ code = grind (arith, nat_tests, e) in record { turns = is; marks = λ ms. refl }
 
-turn_marks : (n : ℕ) (t : Token) (ms : List Mark) → (nat_le 1 n && nat_le n 15) ≡ true → rotation_marks (bare (core.Number n) t) ms ≡ ms
+pub turn_marks : (n : ℕ) (t : Token) (ms : List Mark) → (nat_le 1 n && nat_le n 15) ≡ true → rotation_marks (bare (core.Number n) t) ms ≡ ms
 turn_marks n t ms e = rw e refl
 
 says_turn : (code : ℕ) (t : Token) → (code == 48) ≡ false → between 48 code 63 ≡ true → SaysRotation code (bare (core.Number (code - 48)) t)
@@ -286,11 +286,11 @@ abbrev pub b_parts : Option Piece → List Part
 b_parts None = []
 b_parts (Some p) = part.ReadB p ∷ []
 
-a_step : (token end : Token) (xs : List Placed) (p : Piece) → last_name end xs ≡ Ok p → part_by name.ReadA token end xs ≡ Ok (part.ReadA p)
+pub a_step : (token end : Token) (xs : List Placed) (p : Piece) → last_name end xs ≡ Ok p → part_by name.ReadA token end xs ≡ Ok (part.ReadA p)
 unfolding part_by
 a_step token end xs p e = rw e refl
 
-b_step : (token end : Token) (xs : List Placed) (p : Piece) → last_name end xs ≡ Ok p → part_by name.ReadB token end xs ≡ Ok (part.ReadB p)
+pub b_step : (token end : Token) (xs : List Placed) (p : Piece) → last_name end xs ≡ Ok p → part_by name.ReadB token end xs ≡ Ok (part.ReadB p)
 unfolding part_by
 b_step token end xs p e = rw e refl
 

@@ -23,8 +23,8 @@ use Rattle.qpu_asm.specs.declared.part.Part.{Part}
 use Rattle.qpu_asm.specs.declared.mark.What.TheVariants as what
 use Rattle.qpu_asm.specs.declared.mark.Mark.{Mark}
 use Rattle.qpu_asm.specs.Roles.{source_of, op_in_add, op_in_mul}
-use Rattle.qpu_asm.specs.Marks.{mark, other_a, other_b, part_marks, marks_of}
-use Rattle.qpu_asm.specs.Judging.{cross, line_fault}
+use Rattle.qpu_asm.specs.reader.Marks.{mark, other_a, other_b, part_marks, marks_of}
+use Rattle.qpu_asm.specs.reader.Judging.{cross, line_fault}
 use Rattle.qpu_asm.proofs.AgainSpelled.{never}
 use Rattle.qpu_asm.proofs.AgainOperands.{source_a_is, source_b_is}
 use Rattle.qpu_asm.proofs.AgainMarks.{marks_are, Given, NoTarget, Only, AnyTarget, Clean, clean_start, clean_mark, clean_first, clean_second, no_fault}
@@ -35,14 +35,14 @@ use Rattle.qpu_asm.proofs.AgainBothSays.{later_parts, SaysBoth}
 
 -- what a rotation asks
 
-turned_by : (g : Signal) (o : Option UnitDoes) → IsNamedSignal g o → is_rotation g ≡ true → IsSomeAnd o CanTurn
+pub turned_by : (g : Signal) (o : Option UnitDoes) → IsNamedSignal g o → is_rotation g ≡ true → IsSomeAnd o CanTurn
 turned_by Nothing o named e = absurd cc
 turned_by End o named e = absurd cc
 turned_by Load0 o named e = absurd cc
 turned_by Load1 o named e = absurd cc
 turned_by (Rotate code) o named e = named.1
 
-two_true : (a b : Bool) → (a && b) ≡ true → (a ≡ true) × (b ≡ true)
+pub two_true : (a b : Bool) → (a && b) ≡ true → (a ≡ true) × (b ≡ true)
 two_true true true e = (refl, refl)
 two_true true false e = absurd cc
 two_true false b e = absurd cc
@@ -50,7 +50,7 @@ two_true false b e = absurd cc
 -- the first part
 
 -- targets behind the first part
-abbrev AddTarget : Option UnitDoes → Place → Type 0
+abbrev pub AddTarget : Option UnitDoes → Place → Type 0
 AddTarget None = NoTarget
 AddTarget (Some p) = Only p.to
 
@@ -68,7 +68,7 @@ head_clean s in_b sets adds turns (Some p) f some far named held says =
 
 -- the mul unit's part
 
-mul_apart : (s : UnitFields) (add : Option UnitDoes) (q : Place) → IfSome add (IsPart s (s.ws == 1)) → IsTarget (not (s.ws == 1)) q
+pub mul_apart : (s : UnitFields) (add : Option UnitDoes) (q : Place) → IfSome add (IsPart s (s.ws == 1)) → IsTarget (not (s.ws == 1)) q
     → (p : Place) → AddTarget add p → cross p q ≡ false
 mul_apart s None q held to p h = absurd h
 mul_apart s (Some d) q held to p h = subst (λ (z : Place). cross z q ≡ false) (sym h) (no_cross (s.ws == 1) d.to q held.target to)

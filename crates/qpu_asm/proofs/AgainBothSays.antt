@@ -19,7 +19,7 @@ use Rattle.qpu_asm.specs.declared.piece.Piece.{Piece}
 use Rattle.qpu_asm.specs.declared.part.UnitPart.{UnitPart}
 use Rattle.qpu_asm.specs.declared.part.Part.{Part}
 use Rattle.qpu_asm.specs.Roles.{source_of, op_in_add, op_in_mul}
-use Rattle.qpu_asm.specs.Meanings.{mul_in, unit_does, unit_sets, signal_in, address_a, address_b, reads_by, address_of_source, other_a_part, other_b_part, first_told, unless, units_of_parts, meaning}
+use Rattle.qpu_asm.specs.reader.Meanings.{mul_in, unit_does, unit_sets, signal_in, address_a, address_b, reads_by, address_of_source, other_a_part, other_b_part, first_told, unless, units_of_parts, meaning}
 use Rattle.qpu_asm.proofs.AgainOperands.{source_a_is, source_b_is}
 use Rattle.qpu_asm.proofs.AgainSources.{sets_back}
 use Rattle.qpu_asm.proofs.AgainHeld.{other_held, reads_a, reads_b, both_false}
@@ -152,7 +152,7 @@ b_alone u is n e =
     let each = both_false (part_uses (op_of u.add) (cond_of u.add) (first_of u.add) (second_of u.add) 7) (part_uses (op_of u.mul) (cond_of u.mul) (first_of u.mul) (second_of u.mul) 7) free.1 in
     reads_none (reads_by address_b u.add) (reads_by address_b u.mul) (reads_b s (s.ws == 1) u.add is.add each.0) (reads_b s (not (s.ws == 1)) u.mul is.mul each.1)
 
-same_units : (u : Units) (add mul : Option UnitDoes) (sets : Bool) (signal : Signal) (a b : Option ℕ) → add ≡ u.add → mul ≡ u.mul → sets ≡ u.sets → signal ≡ u.signal
+pub same_units : (u : Units) (add mul : Option UnitDoes) (sets : Bool) (signal : Signal) (a b : Option ℕ) → add ≡ u.add → mul ≡ u.mul → sets ≡ u.sets → signal ≡ u.signal
     → a ≡ u.other_a → b ≡ u.other_b → record { add = add; mul = mul; sets = sets; signal = signal; other_a = a; other_b = b } ≡ u
 same_units u add mul sets signal a b e f g h i j = rw (e, f, g, h, i, j) refl
 
@@ -197,7 +197,7 @@ units_back u f m g a b is named says =
     (unless_same _ (reads_by address_a u.add || reads_by address_a u.mul) _ u.other_a reads_of_a (a_told u.other_a m g a b says.other_a) (a_alone u is))
     (unless_same _ (reads_by address_b u.add || reads_by address_b u.mul) _ u.other_b reads_of_b (b_told u.other_b m g a b says.other_b) (b_alone u is))
 
-head_meaning : (at : ℕ) (f : Option UnitPart) (later : List Part) → meaning at (head_part f) later ≡ instruction.Both (units_of_parts f later)
+pub head_meaning : (at : ℕ) (f : Option UnitPart) (later : List Part) → meaning at (head_part f) later ≡ instruction.Both (units_of_parts f later)
 unfolding meaning
 head_meaning at None later = refl
 head_meaning at (Some v) later = refl

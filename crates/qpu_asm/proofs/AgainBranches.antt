@@ -29,15 +29,15 @@ use Rattle.qpu_asm.specs.declared.part.Part.TheVariants as part
 use Rattle.qpu_asm.specs.declared.line.Line.TheVariants.{Says}
 use Rattle.qpu_asm.specs.declared.mark.What.TheVariants as what
 use Rattle.qpu_asm.specs.declared.mark.Mark.{Mark}
-use Rattle.qpu_asm.specs.Pieces.{bare, suffix_at, comma_at, target_core, jump_core}
-use Rattle.qpu_asm.specs.Parts.{branch_part, last_name, part_by}
-use Rattle.qpu_asm.specs.Orders.{begins, follows}
+use Rattle.qpu_asm.specs.reader.Pieces.{bare, suffix_at, comma_at, target_core, jump_core}
+use Rattle.qpu_asm.specs.reader.Parts.{branch_part, last_name, part_by}
+use Rattle.qpu_asm.specs.reader.Orders.{begins, follows}
 use Rattle.qpu_asm.specs.Roles.{is_mnemonic}
-use Rattle.qpu_asm.specs.SectionTokens.{SectionTokens}
-use Rattle.qpu_asm.specs.Marks.{mark, target_place, somewhere, if_link, place_mark, branch_marks, jump_marks, jumping_marks, part_marks, marks_of}
-use Rattle.qpu_asm.specs.Judging.{cross, line_fault}
-use Rattle.qpu_asm.specs.Meanings.{place_of, branch_condition_in, distance, target_row, row_part, first_told, link_in, branch_of_part, meaning}
-use Rattle.qpu_asm.specs.LinesRead.{read_line}
+use Rattle.qpu_asm.specs.reader.SectionTokens.{SectionTokens}
+use Rattle.qpu_asm.specs.reader.Marks.{mark, target_place, somewhere, if_link, place_mark, branch_marks, jump_marks, jumping_marks, part_marks, marks_of}
+use Rattle.qpu_asm.specs.reader.Judging.{cross, line_fault}
+use Rattle.qpu_asm.specs.reader.Meanings.{place_of, branch_condition_in, distance, target_row, row_part, first_told, link_in, branch_of_part, meaning}
+use Rattle.qpu_asm.specs.reader.LinesRead.{read_line}
 use Rattle.qpu_asm.proofs.AgainOperands.{figure_worth}
 use Rattle.qpu_asm.proofs.AgainSpelled.{Spelled, symbols_append}
 use Rattle.qpu_asm.proofs.AgainPieces.{place_by, ends_stops, maybe_suffix, Suffixed, suffix_read, SaysCore, target_core_read, target_no_dot, jump_number}
@@ -69,7 +69,7 @@ record SaysBranch (b : Branch) (v : BranchPart) : Type 0 where
   to : SaysCore b.add v.to.core
   target : v.target.core ≡ core.Number b.immediate
 
-branch_step : (relative : Bool) (end : Token) (xs ys zs ws : List Placed) (s : Option Suffix) (to value : Piece)
+pub branch_step : (relative : Bool) (end : Token) (xs ys zs ws : List Placed) (s : Option Suffix) (to value : Piece)
     → suffix_at xs ≡ Ok (s, ys) → target_core end ys ≡ Ok (to, zs) → comma_at end zs ≡ Ok ws → jump_core end ws ≡ Ok (value, [])
     → branch_part relative end xs ≡ Ok (part.Branch (record { relative = relative; suffix = s; to = to; target = value }))
 unfolding branch_part
@@ -100,17 +100,17 @@ branch_part_read end b xs near h =
       record { relative = refl; condition = s.4; to = t.5; target = refl },
     )
 
-branch_by : (relative : Bool) (token end : Token) (xs : List Placed)
+pub branch_by : (relative : Bool) (token end : Token) (xs : List Placed)
     → part_by (if relative then name.RelativeBranch else name.Branch) token end xs ≡ branch_part relative end xs
 unfolding part_by
 branch_by true token end xs = refl
 branch_by false token end xs = refl
 
-branch_begins : (relative : Bool) → begins (if relative then name.RelativeBranch else name.Branch) ≡ true
+pub branch_begins : (relative : Bool) → begins (if relative then name.RelativeBranch else name.Branch) ≡ true
 branch_begins true = refl
 branch_begins false = refl
 
-branch_mnemonic : (relative : Bool) → is_mnemonic (if relative then name.RelativeBranch else name.Branch) ≡ true
+pub branch_mnemonic : (relative : Bool) → is_mnemonic (if relative then name.RelativeBranch else name.Branch) ≡ true
 branch_mnemonic true = refl
 branch_mnemonic false = refl
 
@@ -137,7 +137,7 @@ abbrev link_parts : Option Piece → List Part
 link_parts None = []
 link_parts (Some p) = part.Link p ∷ []
 
-link_step : (token end : Token) (xs : List Placed) (p : Piece) → last_name end xs ≡ Ok p → part_by name.Link token end xs ≡ Ok (part.Link p)
+pub link_step : (token end : Token) (xs : List Placed) (p : Piece) → last_name end xs ≡ Ok p → part_by name.Link token end xs ≡ Ok (part.Link p)
 unfolding part_by
 link_step token end xs p e = rw e refl
 
@@ -174,7 +174,7 @@ row_parts None o = []
 row_parts (Some row) None = []
 row_parts (Some row) (Some t) = part.Row (bare (core.Name (row_name row)) t) ∷ []
 
-row_step : (token end : Token) (xs : List Placed) (p : Piece) → last_name end xs ≡ Ok p → part_by name.Row token end xs ≡ Ok (part.Row p)
+pub row_step : (token end : Token) (xs : List Placed) (p : Piece) → last_name end xs ≡ Ok p → part_by name.Row token end xs ≡ Ok (part.Row p)
 unfolding part_by
 row_step token end xs p e = rw e refl
 

@@ -13,10 +13,10 @@ use Rattle.qpu_asm.specs.declared.piece.Core.{Core}
 use Rattle.qpu_asm.specs.declared.piece.Core.TheVariants as core
 use Rattle.qpu_asm.specs.declared.piece.Piece.{Piece}
 use Rattle.qpu_asm.specs.declared.part.Part.{Part}
-use Rattle.qpu_asm.specs.Pieces.{bare, value_core, target_core}
-use Rattle.qpu_asm.specs.Parts.{last_value, last_name, part_by}
-use Rattle.qpu_asm.specs.Orders.{begins, follows, due}
-use Rattle.qpu_asm.specs.SectionTokens.{SectionTokens}
+use Rattle.qpu_asm.specs.reader.Pieces.{bare, value_core, target_core}
+use Rattle.qpu_asm.specs.reader.Parts.{last_value, last_name, part_by}
+use Rattle.qpu_asm.specs.reader.Orders.{begins, follows, due}
+use Rattle.qpu_asm.specs.reader.SectionTokens.{SectionTokens}
 use Rattle.qpu_asm.proofs.AgainSpelled.{Spelled}
 use Rattle.qpu_asm.proofs.AgainPieces.{Stops, ends_stops, value_name, value_number, SaysCore, target_name, target_core_read}
 use Rattle.qpu_asm.proofs.AgainUnits.{nothing_ends}

@@ -16,8 +16,8 @@ use Rattle.qpu_line.specs.Units.{part_uses, signal_of, other_read, op_of, cond_o
 use Rattle.qpu_line.specs.Worded.{IsTarget}
 use Rattle.qpu_line.specs.Both.{IsOperand, IsPart}
 use Rattle.qpu_line.specs.Named.{IsNamedOperand, is_turned}
-use Rattle.qpu_asm.specs.Judging.{cross}
-use Rattle.qpu_asm.specs.Meanings.{address_a, address_b, reads_by}
+use Rattle.qpu_asm.specs.reader.Judging.{cross}
+use Rattle.qpu_asm.specs.reader.Meanings.{address_a, address_b, reads_by}
 use Rattle.qpu_asm.proofs.AgainMarks.{Given}
 use Rattle.qpu_asm.proofs.AgainSources.{Holds}
 

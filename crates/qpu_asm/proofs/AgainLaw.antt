@@ -14,8 +14,8 @@ use Rattle.qpu_line.specs.Named.{IsNamed, HasWord}
 use Rattle.qpu_asm.specs.declared.placed.Placed.{Placed}
 use Rattle.qpu_asm.specs.declared.part.Part.{Part}
 use Rattle.qpu_asm.specs.declared.line.Line.TheVariants.{Says}
-use Rattle.qpu_asm.specs.SectionTokens.{SectionTokens}
-use Rattle.qpu_asm.specs.LinesRead.{read_line}
+use Rattle.qpu_asm.specs.reader.SectionTokens.{SectionTokens}
+use Rattle.qpu_asm.specs.reader.LinesRead.{read_line}
 use Rattle.qpu_asm.proofs.AgainSpelled.{Spelled, spelled_map}
 use Rattle.qpu_asm.proofs.AgainSections.{AllPlain, AllBegin, tails, AreSections, Reads, IsLine, line_read}
 use Rattle.qpu_asm.proofs.AgainForms.{are_append, reads_append, plain_both, begin_both}

@@ -31,13 +31,14 @@ use Rattle.qpu_asm.specs.declared.part.Part.TheVariants as part
 use Rattle.qpu_asm.specs.declared.line.Line.TheVariants.{Says}
 use Rattle.qpu_asm.specs.declared.mark.What.TheVariants as what
 use Rattle.qpu_asm.specs.declared.mark.Mark.{Mark}
-use Rattle.qpu_asm.specs.Pieces.{bare, suffix_at, comma_at, target_core, value_core}
-use Rattle.qpu_asm.specs.Parts.{suffixes_at, load_part, also_part, part_by}
-use Rattle.qpu_asm.specs.SectionTokens.{SectionTokens}
-use Rattle.qpu_asm.specs.Marks.{mark, target_place, somewhere, place_mark, any_number, condition_marks, suffix_marks, load_marks, also_marks, part_marks, marks_of}
-use Rattle.qpu_asm.specs.Judging.{cross, line_fault}
-use Rattle.qpu_asm.specs.Meanings.{place_of, is_nowhere, number_of, condition_in, sets_in, write_in, also_in, load_of_part, meaning}
-use Rattle.qpu_asm.specs.LinesRead.{read_line}
+use Rattle.qpu_asm.specs.reader.Pieces.{bare, suffix_at, comma_at, target_core, value_core}
+use Rattle.qpu_asm.specs.reader.Parts.{suffixes_at, load_part, also_part, part_by}
+use Rattle.qpu_asm.specs.reader.SectionTokens.{SectionTokens}
+use Rattle.qpu_asm.specs.reader.Marks.{mark, target_place, somewhere, place_mark, any_number, condition_marks, suffix_marks, load_marks, also_marks, part_marks, marks_of}
+use Rattle.qpu_asm.specs.reader.Judging.{cross, line_fault}
+use Rattle.qpu_asm.specs.SpelledPieces.{is_nowhere}
+use Rattle.qpu_asm.specs.reader.Meanings.{place_of, number_of, condition_in, sets_in, write_in, also_in, load_of_part, meaning}
+use Rattle.qpu_asm.specs.reader.LinesRead.{read_line}
 use Rattle.qpu_asm.proofs.AgainSpelled.{Spelled, symbols_append}
 use Rattle.qpu_asm.proofs.AgainPieces.{place_by, NoDot, ends_stops, maybe_suffix, Suffixed, suffix_read, SaysSuffixes, suffixes_read, SaysCore, target_core_read, target_no_dot, value_number}
 use Rattle.qpu_asm.proofs.AgainUnits.{condition_suffix, condition_is, comma_ends, comma_read, nothing_ends}
@@ -63,7 +64,7 @@ record SaysLoad (l : Load) (v : LoadPart) : Type 0 where
   to : SaysCore (write_target l.add) v.to.core
   value : v.value.core ≡ core.Number l.immediate
 
-load_step : (kind : LoadKind) (end : Token) (xs ys zs ws : List Placed) (s : Suffixes) (to value : Piece)
+pub load_step : (kind : LoadKind) (end : Token) (xs ys zs ws : List Placed) (s : Suffixes) (to value : Piece)
     → suffixes_at xs ≡ Ok (s, ys) → target_core end ys ≡ Ok (to, zs) → comma_at end zs ≡ Ok ws → value_core end ws ≡ Ok (value, [])
     → load_part kind end xs ≡ Ok (part.Load (record { kind = kind; suffixes = s; to = to; value = value }))
 unfolding load_part
@@ -118,7 +119,7 @@ also_tails : (o : Option Write) → symbols_of (also_bits o) ≡ tails (also_sec
 also_tails None = refl
 also_tails (Some w) = ap (λ z. symbols_of (behind z)) (also_is w) ∙ behind_symbols (Word name.Also ∷ also_rest w)
 
-also_step : (end : Token) (xs ys : List Placed) (s : Option Suffix) (to : Piece) → suffix_at xs ≡ Ok (s, ys) → target_core end ys ≡ Ok (to, [])
+pub also_step : (end : Token) (xs ys : List Placed) (s : Option Suffix) (to : Piece) → suffix_at xs ≡ Ok (s, ys) → target_core end ys ≡ Ok (to, [])
     → also_part end xs ≡ Ok (part.Also (record { suffix = s; to = to }))
 unfolding also_part
 also_step end xs ys s to e f = rw (e, f) refl
@@ -133,11 +134,11 @@ also_read end w xs h =
     let t = last_core end w.to s.0 s.1 in
     (record { suffix = s.2; to = bare t.0 t.1 }, also_step end xs s.0 s.2 (bare t.0 t.1) s.3 t.2, s.4, t.3)
 
-also_part_by : (token end : Token) (xs : List Placed) → part_by name.Also token end xs ≡ also_part end xs
+pub also_part_by : (token end : Token) (xs : List Placed) → part_by name.Also token end xs ≡ also_part end xs
 unfolding part_by
 also_part_by token end xs = refl
 
-load_part_by : (kind : LoadKind) (token end : Token) (xs : List Placed) → part_by (name.Load kind) token end xs ≡ load_part kind end xs
+pub load_part_by : (kind : LoadKind) (token end : Token) (xs : List Placed) → part_by (name.Load kind) token end xs ≡ load_part kind end xs
 unfolding part_by
 load_part_by kind token end xs = refl
 
@@ -179,7 +180,7 @@ also_back None a is h = rw h refl
 also_back (Some w) a is h =
     rw h.1 (write_some w (place_of h.0.to.core) h.0.suffix (place_by (target_place h.0.to.core) w.to _ h.3.place) is (single_back w.cond h.0.suffix (cond_named w is) h.2))
 
-same_load : (l : Load) (kind : LoadKind) (sets : Bool) (add mul : Option Write) (immediate : ℕ) → kind ≡ l.kind → sets ≡ l.sets → add ≡ l.add → mul ≡ l.mul → immediate ≡ l.immediate
+pub same_load : (l : Load) (kind : LoadKind) (sets : Bool) (add mul : Option Write) (immediate : ℕ) → kind ≡ l.kind → sets ≡ l.sets → add ≡ l.add → mul ≡ l.mul → immediate ≡ l.immediate
     → record { kind = kind; sets = sets; add = add; mul = mul; immediate = immediate } ≡ l
 same_load l kind sets add mul immediate e f g h i = rw (e, f, g, h, i) refl
 
@@ -193,10 +194,10 @@ load_says at l v a is says also =
 
 -- no fault
 
-value_marks : (p : Piece) (n : ℕ) (ms : List Mark) → p.core ≡ core.Number n → any_number p ms ≡ ms
+pub value_marks : (p : Piece) (n : ℕ) (ms : List Mark) → p.core ≡ core.Number n → any_number p ms ≡ ms
 value_marks p n ms e = rw e refl
 
-place_marked : (o : Option Place) (to : Place) (t : Token) (ms : List Mark) → o ≡ Some to → place_mark o t ms ≡ mark (what.Writes to) t ms
+pub place_marked : (o : Option Place) (to : Place) (t : Token) (ms : List Mark) → o ≡ Some to → place_mark o t ms ≡ mark (what.Writes to) t ms
 place_marked o to t ms e = rw e refl
 
 first_clean : (g : Given) (l : Load) (v : LoadPart) → SaysLoad l v → Clean (Only (write_target l.add)) g (part_marks false [] (part.Load v))

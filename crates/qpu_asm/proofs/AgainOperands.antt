@@ -18,7 +18,7 @@ use Rattle.qpu_asm.specs.declared.placed.Placed.{Placed}
 use Rattle.qpu_asm.specs.declared.piece.Core.TheVariants as core
 use Rattle.qpu_asm.specs.declared.piece.Suffix.{Suffix}
 use Rattle.qpu_asm.specs.declared.piece.Piece.{Piece}
-use Rattle.qpu_asm.specs.Pieces.{operand_at}
+use Rattle.qpu_asm.specs.reader.Pieces.{operand_at}
 use Rattle.qpu_asm.specs.Roles.{source_of}
 use Rattle.qpu_asm.proofs.AgainSpelled.{Spelled}
 use Rattle.qpu_asm.proofs.AgainPieces.{Ends, ends_stops, ends_no_dot, operand_name, operand_number, no_suffix_at, maybe_suffix, Suffixed, suffix_read, suffix_stops, suffix_behind_operand}

@@ -12,7 +12,7 @@ use Rattle.qpu_line.specs.declared.name.Name.{Name}
 use Rattle.qpu_line.specs.declared.name.Name.TheVariants as name
 use Rattle.qpu_line.specs.Lines.{mul_name}
 use Rattle.qpu_asm.specs.declared.placed.Placed.{Placed}
-use Rattle.qpu_asm.specs.Parts.{part_by, unit_part}
+use Rattle.qpu_asm.specs.reader.Parts.{part_by, unit_part}
 use Rattle.qpu_asm.specs.Roles.{add_code, op_in_mul, takes_one, is_mnemonic}
 
 is_number : (n m : ℕ) → (n == m) ≡ true → n ≡ m

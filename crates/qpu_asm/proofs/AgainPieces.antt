@@ -17,13 +17,14 @@ use Rattle.qpu_asm.specs.declared.piece.Core.TheVariants as core
 use Rattle.qpu_asm.specs.declared.piece.Suffix.{Suffix}
 use Rattle.qpu_asm.specs.declared.piece.Piece.{Piece}
 use Rattle.qpu_asm.specs.declared.part.Suffixes.{Suffixes}
-use Rattle.qpu_asm.specs.Reading.{Read}
-use Rattle.qpu_asm.specs.Expressions.{length_from, expression_length}
+use Rattle.qpu_asm.specs.reader.Reading.{Read}
+use Rattle.qpu_asm.specs.reader.Expressions.{length_from, expression_length}
 use Rattle.qpu_asm.specs.declared.expression.Due.TheVariants.{Sign}
-use Rattle.qpu_asm.specs.Pieces.{named, is_minus, is_dot, is_comma, is_colon, stops, name_alone, alone, bare, length_of, target_of_length, value_of_length, target_core, value_core, operand_core, has_dot, jump_core, suffix_at, suffix_behind, suffix_of, target_at, operand_at}
-use Rattle.qpu_asm.specs.Parts.{suffixes_at}
+use Rattle.qpu_asm.specs.Spells.{is_colon}
+use Rattle.qpu_asm.specs.reader.Pieces.{named, is_minus, is_dot, is_comma, stops, name_alone, alone, bare, length_of, target_of_length, value_of_length, target_core, value_core, operand_core, has_dot, jump_core, suffix_at, suffix_behind, suffix_of, target_at, operand_at}
+use Rattle.qpu_asm.specs.reader.Parts.{suffixes_at}
 use Rattle.qpu_asm.specs.Roles.{target_meant}
-use Rattle.qpu_asm.specs.Marks.{target_place, somewhere}
+use Rattle.qpu_asm.specs.reader.Marks.{target_place, somewhere}
 use Rattle.qpu_asm.proofs.AgainSpelled.{Spelled}
 
 -- what stands behind a piece
@@ -76,12 +77,12 @@ one_name n ss e = rw e refl
 one_number : (n : ℕ) (ss : List Symbol) → length_from Sign 0 ss ≡ Some 0 → expression_length (symbol.Number n ∷ ss) ≡ Some 1
 one_number n ss e = rw e refl
 
-name_length : (x : Placed) (rest : List Placed) (n : Name) → x.symbol ≡ symbol.Name n → Stops rest → length_of (x ∷ rest) ≡ Some 1
+pub name_length : (x : Placed) (rest : List Placed) (n : Name) → x.symbol ≡ symbol.Name n → Stops rest → length_of (x ∷ rest) ≡ Some 1
 name_length x rest n e h =
     let P : Symbol → Type 0 = λ s. expression_length (s ∷ map (λ x. x.symbol) rest) ≡ Some 1 in
     subst P (sym e) (one_name n (map (λ x. x.symbol) rest) (stopped rest h))
 
-number_length : (x : Placed) (rest : List Placed) (n : ℕ) → x.symbol ≡ symbol.Number n → Stops rest → length_of (x ∷ rest) ≡ Some 1
+pub number_length : (x : Placed) (rest : List Placed) (n : ℕ) → x.symbol ≡ symbol.Number n → Stops rest → length_of (x ∷ rest) ≡ Some 1
 number_length x rest n e h =
     let P : Symbol → Type 0 = λ s. expression_length (s ∷ map (λ x. x.symbol) rest) ≡ Some 1 in
     subst P (sym e) (one_number n (map (λ x. x.symbol) rest) (stopped rest h))
@@ -124,7 +125,7 @@ pub value_number : (end : Token) (x : Placed) (rest : List Placed) (n : ℕ) →
 unfolding value_core
 value_number end x rest n e b h = number_step x rest x.symbol (length_of (x ∷ rest)) n e (number_length x rest n e h) b
 
-operand_name_step : (s : Symbol) (b : Bool) (other r : Read Piece) (n : Name) → s ≡ symbol.Name n → (if is_minus s && b then other else r) ≡ r
+pub operand_name_step : (s : Symbol) (b : Bool) (other r : Read Piece) (n : Name) → s ≡ symbol.Name n → (if is_minus s && b then other else r) ≡ r
 operand_name_step s b other r n e = rw e refl
 
 pub operand_name : (end : Token) (x : Placed) (rest : List Placed) (n : Name) → x.symbol ≡ symbol.Name n → Stops rest
@@ -133,7 +134,7 @@ unfolding operand_core
 operand_name end x rest n e h =
     operand_name_step x.symbol (has_dot rest) (Ok (bare core.Nowhere x.token, rest)) (value_core end (x ∷ rest)) n e ∙ value_name end x rest n e h
 
-operand_number_step : (s : Symbol) (b : Bool) (other r : Read Piece) (n : ℕ) → s ≡ symbol.Number n → (if is_minus s && b then other else r) ≡ r
+pub operand_number_step : (s : Symbol) (b : Bool) (other r : Read Piece) (n : ℕ) → s ≡ symbol.Number n → (if is_minus s && b then other else r) ≡ r
 operand_number_step s b other r n e = rw e refl
 
 pub operand_number : (end : Token) (x : Placed) (rest : List Placed) (n : ℕ) → x.symbol ≡ symbol.Number n → n < 4294967296 → Stops rest
@@ -142,7 +143,7 @@ unfolding operand_core
 operand_number end x rest n e b h =
     operand_number_step x.symbol (has_dot rest) (Ok (bare core.Nowhere x.token, rest)) (value_core end (x ∷ rest)) n e ∙ value_number end x rest n e b h
 
-jump_step : (end : Token) (x : Placed) (rest : List Placed) (s : Symbol) (r other : Read Piece) (n : ℕ) → s ≡ symbol.Number n
+pub jump_step : (end : Token) (x : Placed) (rest : List Placed) (s : Symbol) (r other : Read Piece) (n : ℕ) → s ≡ symbol.Number n
     → (if is_colon s then other else r) ≡ r
 jump_step end x rest s r other n e = rw e refl
 
@@ -153,7 +154,7 @@ jump_number end x rest n e b h = jump_step end x rest x.symbol _ _ n e ∙ value
 
 -- suffixes
 
-no_suffix_step : (x : Placed) (rest : List Placed) (b : Bool) → b ≡ false
+pub no_suffix_step : (x : Placed) (rest : List Placed) (b : Bool) → b ≡ false
     → (if b then suffix_behind x.token rest else Ok (None, x ∷ rest)) ≡ Ok (None, x ∷ rest)
 no_suffix_step x rest b e = rw e refl
 
@@ -207,7 +208,7 @@ SaysSuffixes None true s = (a : Token) × (s ≡ record { first = suffixed a nam
 SaysSuffixes (Some n) false s = (a : Token) × (s ≡ record { first = suffixed a n; second = None })
 SaysSuffixes (Some n) true s = (a : Token) × (b : Token) × (s ≡ record { first = suffixed a n; second = suffixed b name.SetFlags })
 
-two_suffixes : (xs ys zs : List Placed) (a b : Option Suffix) → suffix_at xs ≡ Ok (a, ys) → suffix_at ys ≡ Ok (b, zs)
+pub two_suffixes : (xs ys zs : List Placed) (a b : Option Suffix) → suffix_at xs ≡ Ok (a, ys) → suffix_at ys ≡ Ok (b, zs)
     → suffixes_at xs ≡ Ok (record { first = a; second = b }, zs)
 unfolding suffixes_at
 two_suffixes xs ys zs a b e f = rw (e, f) refl

@@ -15,15 +15,16 @@ use Rattle.qpu_asm.specs.declared.part.Part.{Part}
 use Rattle.qpu_asm.specs.declared.line.Line.{Line}
 use Rattle.qpu_asm.specs.declared.line.Line.TheVariants.{Says}
 use Rattle.qpu_asm.specs.Roles.{is_mnemonic}
-use Rattle.qpu_asm.specs.Parts.{part_by}
-use Rattle.qpu_asm.specs.Orders.{due}
-use Rattle.qpu_asm.specs.Pieces.{is_dot, is_colon}
-use Rattle.qpu_asm.specs.SectionTokens.{SectionTokens}
-use Rattle.qpu_asm.specs.Sections.{is_semicolon, Cutting, cut_on, put_section, sections_of, unknown_in, unknown_symbol, first_of, part_after_symbol, part_after, parts_on, parts_of}
-use Rattle.qpu_asm.specs.Marks.{marks_of}
-use Rattle.qpu_asm.specs.Judging.{line_fault}
-use Rattle.qpu_asm.specs.Meanings.{meaning}
-use Rattle.qpu_asm.specs.LinesRead.{instruction_line, read_line}
+use Rattle.qpu_asm.specs.reader.Parts.{part_by}
+use Rattle.qpu_asm.specs.reader.Orders.{due}
+use Rattle.qpu_asm.specs.reader.Pieces.{is_dot}
+use Rattle.qpu_asm.specs.reader.SectionTokens.{SectionTokens}
+use Rattle.qpu_asm.specs.reader.Sections.{is_semicolon, Cutting, cut_on, put_section, sections_of, unknown_in, unknown_symbol, first_of, part_after_symbol, part_after, parts_on, parts_of}
+use Rattle.qpu_asm.specs.reader.Marks.{marks_of}
+use Rattle.qpu_asm.specs.reader.Judging.{line_fault}
+use Rattle.qpu_asm.specs.reader.Meanings.{meaning}
+use Rattle.qpu_asm.specs.reader.LinesRead.{instruction_line, read_line}
+use Rattle.qpu_asm.specs.Spells.{behind_first, is_colon}
 use Rattle.qpu_asm.proofs.AgainSpelled.{Spelled, spelled_append, spelled_front, symbols_append}
 
 -- symbols with no sign `;`
@@ -31,7 +32,7 @@ abbrev pub Plain : List Symbol → Type 0
 Plain [] = Unit {0}
 Plain (s ∷ ss) = (is_semicolon s ≡ false) × Plain ss
 
-plain_append : (ss tt : List Symbol) → Plain ss → Plain tt → Plain (ss ++ tt)
+pub plain_append : (ss tt : List Symbol) → Plain ss → Plain tt → Plain (ss ++ tt)
 plain_append [] tt p q = q
 plain_append (s ∷ ss) tt p q = (p.0, plain_append ss tt p.1 q)
 
@@ -44,8 +45,7 @@ AllPlain (s ∷ ss) = Plain s × AllPlain ss
 
 -- sections behind the first
 abbrev pub tails : List (List Symbol) → List Symbol
-tails [] = []
-tails (s ∷ ss) = symbol.Semicolon ∷ (s ++ tails ss)
+tails xs = behind_first xs
 
 pub tails_append : (a b : List (List Symbol)) → tails (a ++ b) ≡ tails a ++ tails b
 tails_append [] b = refl
@@ -162,7 +162,7 @@ reads_all earlier (t ∷ ts) (p ∷ ps) r =
     rw (parts_step earlier t p r.0) (reads_all (earlier ++ p ∷ []) ts ps r.1 ∙ ap Ok (append_assoc earlier (p ∷ []) ps))
 
 -- a section with a mnemonic that is due
-after_step : (earlier : List Part) (s : Symbol) (token end : Token) (rest : List Placed) (n : Name) (p : Part) → s ≡ symbol.Name n → due earlier n ≡ true
+pub after_step : (earlier : List Part) (s : Symbol) (token end : Token) (rest : List Placed) (n : Name) (p : Part) → s ≡ symbol.Name n → due earlier n ≡ true
     → part_by n token end rest ≡ Ok p → part_after_symbol earlier s token end rest ≡ Ok p
 after_step earlier s token end rest n p e d f = rw (e, d) f
 
@@ -210,14 +210,20 @@ parts_are : (ts : List SectionTokens) → parts_of ts ≡ fold parts_on (Ok []) 
 unfolding parts_of
 parts_are ts = refl
 
+pub line_read_by : (at : ℕ) (end : Token) (n : Name) (h : List Symbol) (ss : List (List Symbol)) (xs : List Placed) (i : Instruction)
+    → Plain h → AllPlain ss → is_mnemonic n ≡ true → AllBegin ss → Spelled ((symbol.Name n ∷ h) ++ tails ss) xs []
+    → ((ts : List SectionTokens) → sections_of end xs ≡ ts → AreSections ((symbol.Name n ∷ h) ∷ ss) ts → IsLine at i ts)
+    → read_line at end xs ≡ Ok (Says i)
+line_read_by at end n h ss [] i p q mnemonic begin spelled reads = absurd spelled
+line_read_by at end n h ss (x ∷ xs) i p q mnemonic begin spelled reads =
+    let c = is_cut end (symbol.Name n ∷ h) ss (x ∷ xs) [] (refl, p) q spelled in
+    let l = reads c.sections (sections_are end (x ∷ xs) ∙ c.cut) c.are in
+    let known = all_known ((symbol.Name n ∷ h) ∷ ss) c.sections c.are ((n, refl, mnemonic), begin) in
+    read_step at end x xs n (Ok (Says i)) spelled.0
+    (line_step at end (x ∷ xs) c.sections l.first l.later i (sections_are end (x ∷ xs) ∙ c.cut) known (parts_are c.sections ∙ reads_all [] c.sections (l.first ∷ l.later) l.reads) l.clean l.says)
+
 pub line_read : (at : ℕ) (end : Token) (n : Name) (h : List Symbol) (ss : List (List Symbol)) (xs : List Placed) (i : Instruction)
     → Plain h → AllPlain ss → is_mnemonic n ≡ true → AllBegin ss → Spelled ((symbol.Name n ∷ h) ++ tails ss) xs []
     → ((ts : List SectionTokens) → AreSections ((symbol.Name n ∷ h) ∷ ss) ts → IsLine at i ts)
     → read_line at end xs ≡ Ok (Says i)
-line_read at end n h ss [] i p q mnemonic begin spelled reads = absurd spelled
-line_read at end n h ss (x ∷ xs) i p q mnemonic begin spelled reads =
-    let c = is_cut end (symbol.Name n ∷ h) ss (x ∷ xs) [] (refl, p) q spelled in
-    let l = reads c.sections c.are in
-    let known = all_known ((symbol.Name n ∷ h) ∷ ss) c.sections c.are ((n, refl, mnemonic), begin) in
-    read_step at end x xs n (Ok (Says i)) spelled.0
-    (line_step at end (x ∷ xs) c.sections l.first l.later i (sections_are end (x ∷ xs) ∙ c.cut) known (parts_are c.sections ∙ reads_all [] c.sections (l.first ∷ l.later) l.reads) l.clean l.says)
+line_read at end n h ss xs i p q mnemonic begin spelled reads = line_read_by at end n h ss xs i p q mnemonic begin spelled (λ ts e are. reads ts are)

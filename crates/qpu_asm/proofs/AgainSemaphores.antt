@@ -16,34 +16,34 @@ use Rattle.qpu_asm.specs.declared.piece.Piece.{Piece}
 use Rattle.qpu_asm.specs.declared.part.Part.{Part}
 use Rattle.qpu_asm.specs.declared.part.Part.TheVariants as part
 use Rattle.qpu_asm.specs.declared.line.Line.TheVariants.{Says}
-use Rattle.qpu_asm.specs.Pieces.{bare}
-use Rattle.qpu_asm.specs.Parts.{last_value, part_by}
-use Rattle.qpu_asm.specs.Orders.{begins}
+use Rattle.qpu_asm.specs.reader.Pieces.{bare}
+use Rattle.qpu_asm.specs.reader.Parts.{last_value, part_by}
+use Rattle.qpu_asm.specs.reader.Orders.{begins}
 use Rattle.qpu_asm.specs.Roles.{is_mnemonic}
-use Rattle.qpu_asm.specs.Marks.{part_marks, marks_of}
-use Rattle.qpu_asm.specs.Judging.{line_fault}
-use Rattle.qpu_asm.specs.Meanings.{meaning}
-use Rattle.qpu_asm.specs.LinesRead.{read_line}
+use Rattle.qpu_asm.specs.reader.Marks.{part_marks, marks_of}
+use Rattle.qpu_asm.specs.reader.Judging.{line_fault}
+use Rattle.qpu_asm.specs.reader.Meanings.{meaning}
+use Rattle.qpu_asm.specs.reader.LinesRead.{read_line}
 use Rattle.qpu_asm.proofs.AgainSpelled.{Spelled}
 use Rattle.qpu_asm.proofs.AgainSections.{line_read}
 use Rattle.qpu_asm.proofs.AgainMarks.{nothing_given, NoTarget, clean_start, no_fault}
 use Rattle.qpu_asm.proofs.AgainForms.{due_first, one_section, last_number}
 
-abbrev step_part : Bool → Piece → Part
+abbrev pub step_part : Bool → Piece → Part
 step_part true p = part.Decrement p
 step_part false p = part.Increment p
 
-step_by : (down : Bool) (token end : Token) (rest : List Placed) (p : Piece) → last_value end rest ≡ Ok p
+pub step_by : (down : Bool) (token end : Token) (rest : List Placed) (p : Piece) → last_value end rest ≡ Ok p
     → part_by (if down then name.Decrement else name.Increment) token end rest ≡ Ok (step_part down p)
 unfolding part_by
 step_by true token end rest p e = rw e refl
 step_by false token end rest p e = rw e refl
 
-step_begins : (down : Bool) → begins (if down then name.Decrement else name.Increment) ≡ true
+pub step_begins : (down : Bool) → begins (if down then name.Decrement else name.Increment) ≡ true
 step_begins true = refl
 step_begins false = refl
 
-step_mnemonic : (down : Bool) → is_mnemonic (if down then name.Decrement else name.Increment) ≡ true
+pub step_mnemonic : (down : Bool) → is_mnemonic (if down then name.Decrement else name.Increment) ≡ true
 step_mnemonic true = refl
 step_mnemonic false = refl
 
@@ -58,11 +58,11 @@ unfolding marks_of part_marks
 step_marks true n t e = rw e refl
 step_marks false n t e = rw e refl
 
-step_fault : (down : Bool) (n : ℕ) (t : Token) → n < 16 → line_fault (marks_of (step_part down (bare (core.Number n) t) ∷ [])) ≡ None
+pub step_fault : (down : Bool) (n : ℕ) (t : Token) → n < 16 → line_fault (marks_of (step_part down (bare (core.Number n) t) ∷ [])) ≡ None
 step_fault down n t near =
     rw (step_marks down n t (near_by n near)) (no_fault NoTarget nothing_given [] (clean_start NoTarget nothing_given))
 
-step_says : (at : ℕ) (down : Bool) (n : ℕ) (t : Token) → meaning at (step_part down (bare (core.Number n) t)) [] ≡ instruction.Semaphore (record { down = down; number = n })
+pub step_says : (at : ℕ) (down : Bool) (n : ℕ) (t : Token) → meaning at (step_part down (bare (core.Number n) t)) [] ≡ instruction.Semaphore (record { down = down; number = n })
 unfolding meaning
 step_says at true n t = refl
 step_says at false n t = refl

@@ -19,8 +19,8 @@ use Rattle.qpu_asm.specs.declared.part.Suffixes.{Suffixes}
 use Rattle.qpu_asm.specs.declared.mark.What.TheVariants as what
 use Rattle.qpu_asm.specs.declared.mark.Mark.{Mark}
 use Rattle.qpu_asm.specs.Roles.{source_of}
-use Rattle.qpu_asm.specs.Marks.{code_of, fixed, unpack_marks, source_marks, number_marks, operand_marks, pack_marks, target_place, target_marks, suffix_marks, mark}
-use Rattle.qpu_asm.specs.Meanings.{unpack_in, pack_in, operand_of, with_unpack, condition_in, sets_in}
+use Rattle.qpu_asm.specs.reader.Marks.{code_of, fixed, unpack_marks, source_marks, number_marks, operand_marks, pack_marks, target_place, target_marks, suffix_marks, mark}
+use Rattle.qpu_asm.specs.reader.Meanings.{unpack_in, pack_in, operand_of, with_unpack, condition_in, sets_in}
 use Rattle.qpu_asm.proofs.SmallLemmas.{code_found}
 use Rattle.qpu_asm.proofs.AgainPieces.{Suffixed, SaysSuffixes}
 use Rattle.qpu_asm.proofs.AgainOperands.{SaysOperand, unpack_suffix}

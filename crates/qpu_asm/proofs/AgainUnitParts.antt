@@ -11,14 +11,15 @@ use Rattle.qpu_line.specs.Named.{IsNamedOperand, IsNamedPart, is_pack_at}
 use Rattle.qpu_asm.specs.declared.part.UnitPart.{UnitPart}
 use Rattle.qpu_asm.specs.declared.mark.What.TheVariants as what
 use Rattle.qpu_asm.specs.declared.mark.Mark.{Mark}
-use Rattle.qpu_asm.specs.Marks.{mark, mark_if, suffix_marks, target_marks, operand_marks, unit_marks, target_place}
-use Rattle.qpu_asm.specs.Meanings.{unit_of, place_of, condition_at, condition_in, pack_in, operand_of, is_nowhere}
+use Rattle.qpu_asm.specs.reader.Marks.{mark, mark_if, suffix_marks, target_marks, operand_marks, unit_marks, target_place}
+use Rattle.qpu_asm.specs.SpelledPieces.{is_nowhere}
+use Rattle.qpu_asm.specs.reader.Meanings.{unit_of, place_of, condition_at, condition_in, pack_in, operand_of}
 use Rattle.qpu_asm.proofs.AgainPieces.{place_by}
 use Rattle.qpu_asm.proofs.AgainUnits.{SaysUnit}
 use Rattle.qpu_asm.proofs.AgainMarks.{Given, Clean, clean_if}
 use Rattle.qpu_asm.proofs.AgainSources.{Holds, CanRead, operand_clean, operand_back, suffixes_clean, condition_back, pack_clean, pack_back, target_marks_are}
 
-not_true : (b : Bool) → not b ≡ true → b ≡ false
+pub not_true : (b : Bool) → not b ≡ true → b ≡ false
 not_true true e = cc
 not_true false e = refl
 
@@ -38,7 +39,7 @@ unit_clean W V g mul sets op p v ms step adds fits named first second says c =
     let one : Clean V g (operand_marks mul v.a (target_marks v.to behind)) = operand_clean V g mul p.a v.a (target_marks v.to behind) says.a first target in
     operand_clean V g mul p.b v.b (operand_marks mul v.a (target_marks v.to behind)) says.b second one
 
-same_part : (p : UnitDoes) (op cond pack : ℕ) (to : Place) (a b : Operand) → op ≡ p.op → cond ≡ p.cond → to ≡ p.to → pack ≡ p.pack → a ≡ p.a → b ≡ p.b
+pub same_part : (p : UnitDoes) (op cond pack : ℕ) (to : Place) (a b : Operand) → op ≡ p.op → cond ≡ p.cond → to ≡ p.to → pack ≡ p.pack → a ≡ p.a → b ≡ p.b
     → record { op = op; cond = cond; to = to; pack = pack; a = a; b = b } ≡ p
 same_part p op cond pack to a b e f g h i j = rw (e, f, g, h, i, j) refl
 

@@ -15,8 +15,8 @@ use Rattle.qpu_asm.specs.declared.piece.Piece.{Piece}
 use Rattle.qpu_asm.specs.declared.part.Suffixes.{Suffixes}
 use Rattle.qpu_asm.specs.declared.part.UnitPart.{UnitPart}
 use Rattle.qpu_asm.specs.declared.part.Part.TheVariants as part
-use Rattle.qpu_asm.specs.Pieces.{comma_at, target_at, operand_at}
-use Rattle.qpu_asm.specs.Parts.{suffixes_at, one_operand, two_operands, operands_at, unit_part}
+use Rattle.qpu_asm.specs.reader.Pieces.{comma_at, target_at, operand_at}
+use Rattle.qpu_asm.specs.reader.Parts.{suffixes_at, one_operand, two_operands, operands_at, unit_part}
 use Rattle.qpu_asm.specs.Roles.{takes_one}
 use Rattle.qpu_asm.proofs.AgainSpelled.{Spelled}
 use Rattle.qpu_asm.proofs.AgainPieces.{Ends, maybe_suffix, Suffixed, SaysSuffixes, suffixes_read, SaysCore, target_no_dot, target_read}

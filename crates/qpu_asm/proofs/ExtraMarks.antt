@@ -17,9 +17,9 @@ use Rattle.qpu_asm.specs.declared.part.Part.TheVariants as part
 use Rattle.qpu_asm.specs.declared.mark.What.{What}
 use Rattle.qpu_asm.specs.declared.mark.What.TheVariants as what
 use Rattle.qpu_asm.specs.declared.mark.Mark.{Mark}
-use Rattle.qpu_asm.specs.Marks.{mark, source_in, is_r5, rotation_marks, other_a, other_b, part_marks}
-use Rattle.qpu_asm.specs.Orders.{is_rotation}
-use Rattle.qpu_asm.specs.Meanings.{number_of, signal_in, address_a, address_b, address_of_source, other_a_part, other_b_part, first_told}
+use Rattle.qpu_asm.specs.reader.Marks.{mark, source_in, is_r5, rotation_marks, other_a, other_b, part_marks}
+use Rattle.qpu_asm.specs.reader.Orders.{is_rotation}
+use Rattle.qpu_asm.specs.reader.Meanings.{number_of, signal_in, address_a, address_b, address_of_source, other_a_part, other_b_part, first_told}
 use Rattle.qpu_asm.proofs.GoodNames.{IsPlain, source_good}
 use Rattle.qpu_asm.proofs.MarkLemmas.{Has}
 use Rattle.qpu_asm.proofs.ProperParts.{Each, GoodCore, IsPlainSignal, GoodPart}

@@ -17,7 +17,7 @@ use Rattle.qpu_line.specs.Named.{is_source, IsNamedOperand, is_pack_at, IsNamedP
 use Rattle.qpu_asm.specs.declared.mark.What.{What}
 use Rattle.qpu_asm.specs.declared.mark.What.TheVariants as what
 use Rattle.qpu_asm.specs.declared.mark.Mark.{Mark}
-use Rattle.qpu_asm.specs.Meanings.{address_a, address_b, reads_by, unless}
+use Rattle.qpu_asm.specs.reader.Meanings.{address_a, address_b, reads_by, unless}
 use Rattle.qpu_asm.proofs.UnitMarks.{AddSaid, MulSaid}
 use Rattle.qpu_asm.proofs.ExtraMarks.{SignalSaid, OtherSaid}
 use Rattle.qpu_asm.proofs.SharedFields.{each_of, both_keep}

@@ -18,7 +18,7 @@ use Rattle.qpu_line.specs.declared.name.Register.TheVariants as register
 use Rattle.qpu_line.specs.Names.{IsRowName, IsNameOfLanguage}
 use Rattle.qpu_line.specs.Named.{is_source}
 use Rattle.qpu_asm.specs.Roles.{target_register, target_meant, source_register, source_of, pack_of, unpack_of}
-use Rattle.qpu_asm.specs.Meanings.{condition_of, branch_condition_of}
+use Rattle.qpu_asm.specs.reader.Meanings.{condition_of, branch_condition_of}
 
 -- a write address with a name, and its file where that matters
 abbrev pub is_placed : Place → Bool

@@ -24,7 +24,7 @@ use Rattle.qpu_asm.specs.declared.mark.What.{What}
 use Rattle.qpu_asm.specs.declared.mark.What.TheVariants as what
 use Rattle.qpu_asm.specs.declared.mark.Mark.{Mark}
 use Rattle.qpu_asm.specs.Roles.{source_of}
-use Rattle.qpu_asm.specs.Marks.{mark, mark_if, code_of, is_condition, is_set_flags, is_branch_condition, flags_mark, first_suffix, has_condition, second_suffix, suffix_marks, condition_marks, branch_marks, no_suffix, target_place, place_mark, is_pack, is_row, pack_marks, target_marks, somewhere, if_link, fixed, unpack_name, unpack_mark, unpack_marks, source_marks, number_marks, nowhere_at, operand_marks, unit_marks, any_number, number_between, load_marks, also_marks, jump_marks, jumping_marks, is_row_name, is_r5, rotation_marks, source_in, other_a, other_b, part_marks}
+use Rattle.qpu_asm.specs.reader.Marks.{mark, mark_if, code_of, is_condition, is_set_flags, is_branch_condition, flags_mark, first_suffix, has_condition, second_suffix, suffix_marks, condition_marks, branch_marks, no_suffix, target_place, place_mark, is_pack, is_row, pack_marks, target_marks, somewhere, if_link, fixed, unpack_name, unpack_mark, unpack_marks, source_marks, number_marks, nowhere_at, operand_marks, unit_marks, any_number, number_between, load_marks, also_marks, jump_marks, jumping_marks, is_row_name, is_r5, rotation_marks, source_in, other_a, other_b, part_marks}
 use Rattle.qpu_asm.proofs.MarkLemmas.{Has, has_left, has_right}
 
 abbrev pub Marking : Type 0
@@ -78,11 +78,11 @@ pub grows_suffixes : (mul : Bool) (s : Suffixes) → Grows (suffix_marks mul s)
 unfolding suffix_marks
 grows_suffixes mul s = grows_then (first_suffix mul s.first) (second_suffix mul s.first s.second) (grows_first mul s.first) (grows_second mul s.first s.second)
 
-grows_condition : (s : Option Suffix) → Grows (condition_marks s)
+pub grows_condition : (s : Option Suffix) → Grows (condition_marks s)
 grows_condition None = grows_same
 grows_condition (Some s) = grows_mark_if (not (is_condition s.name)) what.Wrong s.dot
 
-grows_branch_condition : (s : Option Suffix) → Grows (branch_marks s)
+pub grows_branch_condition : (s : Option Suffix) → Grows (branch_marks s)
 grows_branch_condition None = grows_same
 grows_branch_condition (Some s) = grows_mark_if (not (is_branch_condition s.name)) what.Wrong s.dot
 

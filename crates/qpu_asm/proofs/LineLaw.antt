@@ -22,14 +22,15 @@ use Rattle.qpu_asm.specs.declared.mark.Mark.{Mark}
 use Rattle.qpu_asm.specs.declared.line.Line.{Line}
 use Rattle.qpu_asm.specs.declared.line.Line.TheVariants.{Raw, Says}
 use Rattle.qpu_asm.specs.Roles.{op_in_add, op_in_mul}
-use Rattle.qpu_asm.specs.Pieces.{is_dot, is_colon}
-use Rattle.qpu_asm.specs.Orders.{is_rotation}
-use Rattle.qpu_asm.specs.SectionTokens.{SectionTokens}
-use Rattle.qpu_asm.specs.Sections.{sections_of, unknown_in, first_of, parts_of}
-use Rattle.qpu_asm.specs.Marks.{unit_marks, part_marks, marks_of}
-use Rattle.qpu_asm.specs.Judging.{cross, line_fault}
-use Rattle.qpu_asm.specs.Meanings.{place_of, unit_of, mul_in, unit_does, unit_sets, signal_in, address_a, address_b, reads_by, other_a_part, other_b_part, first_told, unless, units_of_parts, meaning}
-use Rattle.qpu_asm.specs.LinesRead.{word_number, directive_symbol, directive, by_fault, by_parts, by_unknown, instruction_line, shaped, read_line}
+use Rattle.qpu_asm.specs.Spells.{is_colon}
+use Rattle.qpu_asm.specs.reader.Pieces.{is_dot}
+use Rattle.qpu_asm.specs.reader.Orders.{is_rotation}
+use Rattle.qpu_asm.specs.reader.SectionTokens.{SectionTokens}
+use Rattle.qpu_asm.specs.reader.Sections.{sections_of, unknown_in, first_of, parts_of}
+use Rattle.qpu_asm.specs.reader.Marks.{unit_marks, part_marks, marks_of}
+use Rattle.qpu_asm.specs.reader.Judging.{cross, line_fault}
+use Rattle.qpu_asm.specs.reader.Meanings.{place_of, unit_of, mul_in, unit_does, unit_sets, signal_in, address_a, address_b, reads_by, other_a_part, other_b_part, first_told, unless, units_of_parts, meaning}
+use Rattle.qpu_asm.specs.reader.LinesRead.{word_number, directive_symbol, directive, by_fault, by_parts, by_unknown, instruction_line, shaped, read_line}
 use Rattle.qpu_asm.specs.Laws.{IsProper}
 use Rattle.std.proofs.lemmas.List.Elements.{All-cons}
 use Rattle.qpu_asm.specs.Placed.{Labels, placed_token}
@@ -47,7 +48,7 @@ use Rattle.qpu_asm.proofs.UnitsLaw.{held, named}
 
 -- both units, by their parts and those behind them
 
-abbrev units_by : Option UnitPart → Option UnitPart → List Part → Units
+abbrev pub units_by : Option UnitPart → Option UnitPart → List Part → Units
 units_by first second rest =
     let add = unit_does op_in_add first in
     let mul = unit_does op_in_mul second in
@@ -61,22 +62,22 @@ units_by first second rest =
     }
 
 -- what is known of the parts: the marks of the units stand first, those of the first unit before the second's
-record IsSpoken (first second : Option UnitPart) (rest : List Part) (early : List Mark) : Type 0 where
-  clear : IsClear (early ++ later_marks rest)
-  add_good : IfSome first GoodUnit
-  add_op : IfSome first (λ u. is_some (op_in_add u.op) ≡ true)
-  add_told : IfSome first (λ u. (w : What) → Has w (unit_marks false u []) → Has w early)
-  mul_good : IfSome second GoodUnit
-  mul_op : IfSome second (λ u. is_some (op_in_mul u.op) ≡ true)
-  mul_told : IfSome second (λ u. (w : What) → Has w (unit_marks true u []) → Has w early)
-  order : IfSome first (λ u. IfSome second (λ v. (a b : What) → Has a (unit_marks false u []) → Has b (unit_marks true v []) → Before a b (early ++ later_marks rest)))
-  good : Each GoodPart rest
-  turning : list_any is_rotation rest ≡ true → is_some second ≡ true
+pub record IsSpoken (first second : Option UnitPart) (rest : List Part) (early : List Mark) : Type 0 where
+  pub clear : IsClear (early ++ later_marks rest)
+  pub add_good : IfSome first GoodUnit
+  pub add_op : IfSome first (λ u. is_some (op_in_add u.op) ≡ true)
+  pub add_told : IfSome first (λ u. (w : What) → Has w (unit_marks false u []) → Has w early)
+  pub mul_good : IfSome second GoodUnit
+  pub mul_op : IfSome second (λ u. is_some (op_in_mul u.op) ≡ true)
+  pub mul_told : IfSome second (λ u. (w : What) → Has w (unit_marks true u []) → Has w early)
+  pub order : IfSome first (λ u. IfSome second (λ v. (a b : What) → Has a (unit_marks false u []) → Has b (unit_marks true v []) → Before a b (early ++ later_marks rest)))
+  pub good : Each GoodPart rest
+  pub turning : list_any is_rotation rest ≡ true → is_some second ≡ true
 
-early_right : (early late : List Mark) → IsClear (early ++ late) → Has what.Wrong early → ⊥
+pub early_right : (early late : List Mark) → IsClear (early ++ late) → Has what.Wrong early → ⊥
 early_right early late clear has = clear.right (has_left what.Wrong early late has)
 
-early_near : (early late : List Mark) → IsClear (early ++ late) → Has what.Far early → ⊥
+pub early_near : (early late : List Mark) → IsClear (early ++ late) → Has what.Far early → ⊥
 early_near early late clear has = clear.near (has_left what.Far early late has)
 
 add_of : (first : Option UnitPart) (early late : List Mark) → IsClear (early ++ late) → IfSome first GoodUnit → IfSome first (λ u. is_some (op_in_add u.op) ≡ true)
@@ -117,7 +118,7 @@ second_there : (second : Option UnitPart) → is_some second ≡ true → is_som
 second_there None some = some
 second_there (Some v) some = refl
 
-line : (first second : Option UnitPart) (rest : List Part) (early : List Mark) → IsSpoken first second rest early
+pub line : (first second : Option UnitPart) (rest : List Part) (early : List Mark) → IsSpoken first second rest early
     → IsLine (units_by first second rest) (first_told other_a_part rest) (first_told other_b_part rest) early (later_marks rest)
 line first second rest early s =
     let right : Has what.Wrong (later_marks rest) → ⊥ = λ has. s.clear.right (has_right what.Wrong early (later_marks rest) has) in
@@ -144,7 +145,7 @@ spoken_has_word first second rest early s =
 
 -- the first part as a unit
 
-abbrev FirstIs : Part → Option UnitPart → Type 0
+abbrev pub FirstIs : Part → Option UnitPart → Type 0
 FirstIs head None = Unit {0}
 FirstIs head (Some u) = (GoodUnit u) × (is_some (op_in_add u.op) ≡ true) × ((w : What) → Has w (unit_marks false u []) → Has w (part_marks false [] head))
 
@@ -175,7 +176,7 @@ two_order head None v late is = tt
 two_order head (Some u) v late is =
     λ a b one other. before_left a b (part_marks false [] head ++ unit_marks true v []) late (before_join a b (part_marks false [] head) (unit_marks true v []) (is.2 a one) other)
 
-two_spoken : (head : Part) (first : Option UnitPart) (v : UnitPart) (rest : List Part) → FirstIs head first → IsOrdered (part.Unit v ∷ rest) → Each GoodPart (part.Unit v ∷ rest)
+pub two_spoken : (head : Part) (first : Option UnitPart) (v : UnitPart) (rest : List Part) → FirstIs head first → IsOrdered (part.Unit v ∷ rest) → Each GoodPart (part.Unit v ∷ rest)
     → IsClear (marks_of (head ∷ part.Unit v ∷ rest)) → IsSpoken first (Some v) rest (part_marks false [] head ++ unit_marks true v [])
 two_spoken head first v rest is ordered good clear =
     let early = part_marks false [] head ++ unit_marks true v [] in
@@ -209,7 +210,7 @@ one_order : (head : Part) (first : Option UnitPart) (all : List Mark)
 one_order head None all = tt
 one_order head (Some u) all = tt
 
-one_spoken : (head : Part) (first : Option UnitPart) (later : List Part) → FirstIs head first → has_second later ≡ false → IsOrdered later → Each GoodPart later
+pub one_spoken : (head : Part) (first : Option UnitPart) (later : List Part) → FirstIs head first → has_second later ≡ false → IsOrdered later → Each GoodPart later
     → IsClear (marks_of (head ∷ later)) → IsSpoken first None later (part_marks false [] head)
 one_spoken head first later is alone ordered good clear = record {
   clear = subst IsClear (one_marks head later) clear;
@@ -224,7 +225,7 @@ one_spoken head first later is alone ordered good clear = record {
   turning = λ turn. (let there : has_second later ≡ true = ordered.rotations turn in sym alone ∙ there);
 }
 
-alone_units : (first : Option UnitPart) (later : List Part) → mul_in later ≡ None → units_of_parts first later ≡ units_by first None later
+pub alone_units : (first : Option UnitPart) (later : List Part) → mul_in later ≡ None → units_of_parts first later ≡ units_by first None later
 unfolding units_of_parts
 alone_units first later e = rw e refl
 
@@ -253,7 +254,7 @@ units_have_words head first (part.ReadB p ∷ rest) is ordered good clear = one_
 
 -- any line
 
-same_marks : (u : UnitPart) (w : What) → Has w (unit_marks false u []) → Has w (part_marks false [] (part.Unit u))
+pub same_marks : (u : UnitPart) (w : What) → Has w (unit_marks false u []) → Has w (part_marks false [] (part.Unit u))
 unfolding part_marks
 same_marks u w has = has
 
@@ -300,7 +301,7 @@ instruction_has_word at end xs good =
     known_have_word at end (sections_of end xs) (first_of (λ s. unknown_in s.tokens) (sections_of end xs)) (line_good end xs good)
 
 -- a directive says no instruction
-abbrev IsRaw : Line → Type 0
+abbrev pub IsRaw : Line → Type 0
 IsRaw (Raw n) = Unit {0}
 IsRaw (Says i) = ⊥
 
@@ -313,7 +314,7 @@ raw_symbol (symbol.Name name.Word) dot end rest = gives_on (λ n. Unit {0}) IsRa
 raw_symbol (symbol.Name name.Set) dot end rest = tt
 raw_symbol _ dot end rest = tt
 
-raw_directive : (dot end : Token) (rest : List Placed) → GivesPart IsRaw (directive dot end rest)
+pub raw_directive : (dot end : Token) (rest : List Placed) → GivesPart IsRaw (directive dot end rest)
 raw_directive dot end [] = tt
 raw_directive dot end (x ∷ rest) = raw_symbol x.symbol dot end rest
 
@@ -337,7 +338,7 @@ line_has_word at end (x ∷ rest) good =
 pub lines_law : (at : ℕ) (end : Token) (xs : List Placed) (i : Instruction) → All IsProper xs → read_line at end xs ≡ Ok (Says i) → HasWord i
 lines_law at end xs i proper e = subst LineHasWord e (line_has_word at end xs (all_good xs proper))
 
-all_placed : (text : List ℕ) (labels : Labels) (tokens : List Token) → All IsProper (map (placed_token text labels) tokens)
+pub all_placed : (text : List ℕ) (labels : Labels) (tokens : List Token) → All IsProper (map (placed_token text labels) tokens)
 all_placed text labels [] = λ k d low. absurd (omega arith)
 all_placed text labels (t ∷ tokens) = All-cons IsProper (placed_token text labels t) (map (placed_token text labels) tokens) (placed_proper text labels t) (all_placed text labels tokens)
 

@@ -11,7 +11,7 @@ use Rattle.qpu_asm.specs.declared.mark.What.TheVariants as what
 use Rattle.qpu_asm.specs.declared.mark.Mark.{Mark}
 use Rattle.qpu_asm.specs.declared.judge.Judged.{Judged}
 use Rattle.qpu_asm.specs.declared.judge.Judged.TheVariants.{Operands, TwoImmediates, TwoReads, Label, Range}
-use Rattle.qpu_asm.specs.Judging.{is_wrong, cross, clashes, first_faulty, kind_of, fault_at, fault_of_kind, line_fault}
+use Rattle.qpu_asm.specs.reader.Judging.{is_wrong, cross, clashes, first_faulty, kind_of, fault_at, fault_of_kind, line_fault}
 use Rattle.qpu_asm.proofs.TestLemmas.{either_false}
 
 -- marks among others
@@ -138,6 +138,8 @@ are_free ms none =
 pub record IsClear (ms : List Mark) : Type 0 where
   pub right : Has what.Wrong ms → ⊥
   pub near : Has what.Far ms → ⊥
+  pub known : Has what.Missing ms → ⊥
+  pub sets : Before what.Adds what.MulSets ms → ⊥
   pub reads_a : (n m : ℕ) → Has (what.ReadsA n) ms → Has (what.ReadsA m) ms → n ≡ m
   pub reads_b : (n m : ℕ) → Has (what.ReadsB n) ms → Has (what.ReadsB m) ms → n ≡ m
   pub numbers : (n m : ℕ) → Has (what.Number n) ms → Has (what.Number m) ms → n ≡ m
@@ -171,6 +173,8 @@ pub is_clear : (ms : List Mark) → line_fault ms ≡ None → IsClear ms
 is_clear ms none = let f = are_free ms none in record {
   right = λ has. never (free_own Operands [] ms what.Wrong f.operands has);
   near = λ has. never (free_own Range [] ms what.Far f.ranges has);
+  known = λ has. never (free_own Label [] ms what.Missing f.labels has);
+  sets = λ x. never (free_before Operands [] ms _ _ f.operands x);
   reads_a = λ n m. from (what.ReadsA n) (what.ReadsA m) (n ≡ m) ms (λ e. cc) (λ x. same_by n m (free_before TwoReads [] ms _ _ f.reads x)) (λ x. sym (same_by m n (free_before TwoReads [] ms _ _ f.reads x)));
   reads_b = λ n m. from (what.ReadsB n) (what.ReadsB m) (n ≡ m) ms (λ e. cc) (λ x. same_by n m (free_before TwoReads [] ms _ _ f.reads x)) (λ x. sym (same_by m n (free_before TwoReads [] ms _ _ f.reads x)));
   numbers = λ n m. from (what.Number n) (what.Number m) (n ≡ m) ms (λ e. cc) (λ x. same_by n m (free_before TwoImmediates [] ms _ _ f.immediates x)) (λ x. sym (same_by m n (free_before TwoImmediates [] ms _ _ f.immediates x)));

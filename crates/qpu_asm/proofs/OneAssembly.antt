@@ -8,11 +8,11 @@ use Rattle.qpu_token.proofs.AnswerLaw.{one_answer}
 use Rattle.qpu_asm.specs.Assembly.{IsAssembly, assembled}
 
 -- where the answer comes from
-data Known (text : List ℕ) (answer : Result (List ℕ) AsmFault) : Type 0 where
+pub data Known (text : List ℕ) (answer : Result (List ℕ) AsmFault) : Type 0 where
   by_fault : (fault : AsmFault) → answer ≡ Err fault → IsAnswer text (Err fault) → Known text answer
   by_tokens : (tokens : List Token) → AreTokens text tokens → assembled text tokens ≡ answer → Known text answer
 
-known : (text : List ℕ) (answer : Result (List ℕ) AsmFault) → IsAssembly text answer → Known text answer
+pub known : (text : List ℕ) (answer : Result (List ℕ) AsmFault) → IsAssembly text answer → Known text answer
 known text answer (IsAssembly.faulty is none) = by_fault _ refl (is, none)
 known text answer (IsAssembly.read are is) = by_tokens _ are is
 

@@ -18,8 +18,8 @@ use Rattle.qpu_asm.specs.declared.mark.What.{What}
 use Rattle.qpu_asm.specs.declared.mark.What.TheVariants as what
 use Rattle.qpu_asm.specs.declared.mark.Mark.{Mark}
 use Rattle.qpu_asm.specs.Roles.{source_of}
-use Rattle.qpu_asm.specs.Marks.{mark, mark_if, code_of, fixed, no_suffix, unpack_name, unpack_mark, unpack_marks, source_marks, operand_marks}
-use Rattle.qpu_asm.specs.Meanings.{with_unpack, unpack_in, operand_of}
+use Rattle.qpu_asm.specs.reader.Marks.{mark, mark_if, code_of, fixed, no_suffix, unpack_name, unpack_mark, unpack_marks, source_marks, operand_marks}
+use Rattle.qpu_asm.specs.reader.Meanings.{with_unpack, unpack_in, operand_of}
 use Rattle.qpu_asm.proofs.GoodNames.{IsPlain, source_good, unpack_good}
 use Rattle.qpu_asm.proofs.MarkLemmas.{Has, has_left, has_right}
 use Rattle.qpu_asm.proofs.ProperParts.{GoodCore, GoodName, GoodSuffix, GoodPiece}
@@ -48,7 +48,7 @@ code_by p a (suc n) end e = by_test (p a) (code_by p (a + 1) n end (omega arith)
     by_test true more = omega arith
     by_test false more = more
 
-code_low : (value : ℕ) → IfSome (code_of value) (λ c. c < 48)
+pub code_low : (value : ℕ) → IfSome (code_of value) (λ c. c < 48)
 unfolding code_of
 code_low value = code_by (λ code. small_value code == value) 0 48 48 refl
 

@@ -13,7 +13,7 @@ use Rattle.qpu_line.specs.Named.{IsNamedOperand, IsOther}
 use Rattle.qpu_asm.specs.declared.mark.What.{What}
 use Rattle.qpu_asm.specs.declared.mark.What.TheVariants as what
 use Rattle.qpu_asm.specs.declared.mark.Mark.{Mark}
-use Rattle.qpu_asm.specs.Meanings.{address_b, reads_by, unless}
+use Rattle.qpu_asm.specs.reader.Meanings.{address_b, reads_by, unless}
 use Rattle.qpu_asm.proofs.MarkLemmas.{Has, has_left, has_right}
 use Rattle.qpu_asm.proofs.OperandMarks.{Marked}
 use Rattle.qpu_asm.proofs.UnitMarks.{DoesSaid, AddSaid, MulSaid}

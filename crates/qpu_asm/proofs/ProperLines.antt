@@ -12,10 +12,10 @@ use Rattle.qpu_asm.specs.declared.part.BranchPart.{BranchPart}
 use Rattle.qpu_asm.specs.declared.part.Part.{Part}
 use Rattle.qpu_asm.specs.declared.part.Part.TheVariants as part
 use Rattle.qpu_asm.specs.Roles.{op_in_add, op_in_mul}
-use Rattle.qpu_asm.specs.Parts.{part_by}
-use Rattle.qpu_asm.specs.Orders.{begins, is_nop, is_unit, is_rotation, is_empty, extra, unit_follows, load_follows, branch_follows, follows, due}
-use Rattle.qpu_asm.specs.SectionTokens.{SectionTokens}
-use Rattle.qpu_asm.specs.Sections.{is_semicolon, Cutting, nothing_cut, put_section, cut_on, sections_of, part_after_symbol, part_after, parts_on, parts_of}
+use Rattle.qpu_asm.specs.reader.Parts.{part_by}
+use Rattle.qpu_asm.specs.reader.Orders.{begins, is_nop, is_unit, is_rotation, is_empty, extra, unit_follows, load_follows, branch_follows, follows, due}
+use Rattle.qpu_asm.specs.reader.SectionTokens.{SectionTokens}
+use Rattle.qpu_asm.specs.reader.Sections.{is_semicolon, Cutting, nothing_cut, put_section, cut_on, sections_of, part_after_symbol, part_after, parts_on, parts_of}
 use Rattle.qpu_asm.specs.Laws.{IsProperSymbol, IsProper}
 use Rattle.qpu_asm.proofs.GoodNames.{name_good}
 use Rattle.qpu_asm.proofs.ProperParts.{Each, each_append, GoodPart, GoodSymbol, GoodPlaced, Good, GivesPart, gives_on, is_op, is_rotate, IsMade, part_good}
@@ -135,7 +135,7 @@ op_by true true idle nop more e a b = (refl, refl)
 op_by true false idle nop more e a b = absurd (grind (arith, e, a, b))
 op_by false some idle nop more e a b = absurd (grind (arith, e, a, b))
 
-turn_by : (empty some idle nop more : Bool) → ((empty && (some || (idle && nop))) || more) ≡ true → some ≡ false → nop ≡ false → more ≡ true
+pub turn_by : (empty some idle nop more : Bool) → ((empty && (some || (idle && nop))) || more) ≡ true → some ≡ false → nop ≡ false → more ≡ true
 turn_by empty some idle nop true e a b = refl
 turn_by empty some idle nop false e a b = absurd (grind (arith, e, a, b))
 

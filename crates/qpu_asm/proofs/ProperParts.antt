@@ -22,10 +22,11 @@ use Rattle.qpu_asm.specs.declared.part.BranchPart.{BranchPart}
 use Rattle.qpu_asm.specs.declared.part.Part.{Part}
 use Rattle.qpu_asm.specs.declared.part.Part.TheVariants as part
 use Rattle.qpu_asm.specs.Roles.{takes_one}
-use Rattle.qpu_asm.specs.Reading.{Read, go_on, ended}
-use Rattle.qpu_asm.specs.Pieces.{is_comma, is_dot, is_minus, is_colon, named, suffix_of, suffix_behind, suffix_at, stops, alone, name_alone, bare, length_of, target_of_length, target_core, value_of_length, value_core, label_by, label_core, jump_core, has_dot, operand_core, with_suffix, target_at, operand_at, comma_at}
-use Rattle.qpu_asm.specs.Parts.{suffixes_at, one_operand, two_operands, operands_at, unit_part, load_part, also_part, branch_part, last_value, last_name, part_by}
-use Rattle.qpu_asm.specs.Orders.{is_unit, is_rotation}
+use Rattle.qpu_asm.specs.reader.Reading.{Read, go_on, ended}
+use Rattle.qpu_asm.specs.Spells.{is_colon}
+use Rattle.qpu_asm.specs.reader.Pieces.{is_comma, is_dot, is_minus, named, suffix_of, suffix_behind, suffix_at, stops, alone, name_alone, bare, length_of, target_of_length, target_core, value_of_length, value_core, label_by, label_core, jump_core, has_dot, operand_core, with_suffix, target_at, operand_at, comma_at}
+use Rattle.qpu_asm.specs.reader.Parts.{suffixes_at, one_operand, two_operands, operands_at, unit_part, load_part, also_part, branch_part, last_value, last_name, part_by}
+use Rattle.qpu_asm.specs.reader.Orders.{is_unit, is_rotation}
 use Rattle.qpu_asm.proofs.GoodNames.{is_good}
 
 -- lists
@@ -139,7 +140,7 @@ pub gives_ended : {A : Type 0} (P : A → Type 0) (a : A) (xs : List Placed) →
 gives_ended P a [] holds = holds
 gives_ended P a (x ∷ xs) holds = tt
 
-gives_if : {A : Type 0} (P : A → Type 0) (b : Bool) (r s : Result A Token) → (b ≡ true → GivesPart P r) → (b ≡ false → GivesPart P s) → GivesPart P (if b then r else s)
+pub gives_if : {A : Type 0} (P : A → Type 0) (b : Bool) (r s : Result A Token) → (b ≡ true → GivesPart P r) → (b ≡ false → GivesPart P s) → GivesPart P (if b then r else s)
 gives_if P true r s then_so else_so = then_so refl
 gives_if P false r s then_so else_so = else_so refl
 

@@ -10,13 +10,14 @@ use Rattle.qpu_asm.specs.declared.placed.Placed.{Placed}
 use Rattle.qpu_asm.specs.declared.part.Part.{Part}
 use Rattle.qpu_asm.specs.declared.line.Line.{Line}
 use Rattle.qpu_asm.specs.declared.line.Line.TheVariants.{Raw, Says}
-use Rattle.qpu_asm.specs.Pieces.{is_dot, is_colon}
-use Rattle.qpu_asm.specs.SectionTokens.{SectionTokens}
-use Rattle.qpu_asm.specs.Sections.{sections_of, unknown_in, first_of, parts_of}
-use Rattle.qpu_asm.specs.Marks.{marks_of}
-use Rattle.qpu_asm.specs.Judging.{line_fault}
-use Rattle.qpu_asm.specs.Meanings.{meaning}
-use Rattle.qpu_asm.specs.LinesRead.{word_number, number_symbol, directive_symbol, directive, by_fault, by_parts, by_unknown, instruction_line, shaped, read_line}
+use Rattle.qpu_asm.specs.Spells.{is_colon}
+use Rattle.qpu_asm.specs.reader.Pieces.{is_dot}
+use Rattle.qpu_asm.specs.reader.SectionTokens.{SectionTokens}
+use Rattle.qpu_asm.specs.reader.Sections.{sections_of, unknown_in, first_of, parts_of}
+use Rattle.qpu_asm.specs.reader.Marks.{marks_of}
+use Rattle.qpu_asm.specs.reader.Judging.{line_fault}
+use Rattle.qpu_asm.specs.reader.Meanings.{meaning}
+use Rattle.qpu_asm.specs.reader.LinesRead.{word_number, number_symbol, directive_symbol, directive, by_fault, by_parts, by_unknown, instruction_line, shaped, read_line}
 use Rattle.qpu_asm.specs.Laws.{symbols_of, word_symbols}
 use Rattle.qpu_asm.proofs.ProperParts.{GivesPart, gives_on}
 

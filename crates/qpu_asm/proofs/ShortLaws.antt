@@ -1,6 +1,6 @@
 -- What lines of loads, branches and semaphores say has a canonical word.
-use Rattle.std.proofs.Common.{◌≡◌, ℕ, ◌+◌, ◌<◌, inl, Bool, true, false, List, [], ◌∷◌, Option, Some, None, refl, arith}
-use Rattle.std.specs.Prelude.{◌==◌, ◌&&◌, ◌%◌, ◌*◌, ◌-◌, ◌^◌, not, nat_le, IfSome, if◌then◌else◌}
+use Rattle.std.proofs.Common.{◌≡◌, ℕ, ◌<◌, inl, Bool, true, false, List, [], ◌∷◌, Option, Some, None, refl, arith}
+use Rattle.std.specs.Prelude.{◌==◌, ◌&&◌, ◌^◌, not, nat_le, IfSome, if◌then◌else◌}
 use Rattle.std.proofs.lemmas.Bool.Decides.{nat_tests}
 use Rattle.qpu_token.specs.declared.token.Token.{Token}
 use Rattle.qpu_word.specs.declared.name.Place.{Place}
@@ -24,9 +24,10 @@ use Rattle.qpu_asm.specs.declared.part.Part.TheVariants as part
 use Rattle.qpu_asm.specs.declared.mark.What.{What}
 use Rattle.qpu_asm.specs.declared.mark.What.TheVariants as what
 use Rattle.qpu_asm.specs.declared.mark.Mark.{Mark}
-use Rattle.qpu_asm.specs.Marks.{mark_if, suffix_marks, condition_marks, branch_marks, target_place, place_mark, somewhere, if_link, any_number, number_between, load_marks, also_marks, jump_marks, jumping_marks, part_marks, marks_of}
-use Rattle.qpu_asm.specs.Judging.{cross}
-use Rattle.qpu_asm.specs.Meanings.{condition_in, nowhere_place, place_of, is_nowhere, number_of, first_told, write_in, also_in, load_of_part, distance, behind_slots, target_row, row_part, link_in, branch_of_part, step}
+use Rattle.qpu_asm.specs.reader.Marks.{mark_if, suffix_marks, condition_marks, branch_marks, target_place, place_mark, somewhere, if_link, any_number, number_between, load_marks, also_marks, jump_marks, jumping_marks, part_marks, marks_of}
+use Rattle.qpu_asm.specs.reader.Judging.{cross}
+use Rattle.qpu_asm.specs.SpelledPieces.{is_nowhere, way}
+use Rattle.qpu_asm.specs.reader.Meanings.{condition_in, nowhere_place, place_of, number_of, first_told, write_in, also_in, load_of_part, distance, target_row, row_part, link_in, branch_of_part, step}
 use Rattle.qpu_asm.proofs.GoodNames.{is_placed, is_good}
 use Rattle.qpu_asm.proofs.MarkLemmas.{Has, has_left, has_right, Before, before_join, IsClear}
 use Rattle.qpu_asm.proofs.ProperParts.{Each, GoodCore, GoodSuffix, GoodLoad, GoodBranch, GoodPart}
@@ -161,7 +162,7 @@ loads_have_words l later good others clear =
 
 -- branches
 
-distance_fits : (relative : Bool) (at word : ℕ) → (if relative then (2 ^ 36 + 8 * word - behind_slots at) % 2 ^ 32 else 8 * word % 2 ^ 32) < 2 ^ 32
+distance_fits : (relative : Bool) (at word : ℕ) → way relative at word < 2 ^ 32
 distance_fits true at word = omega arith
 distance_fits false at word = omega arith
 

@@ -11,7 +11,7 @@ use Rattle.qpu_line.specs.Named.{IsAddPart, IsMulPart, CanTurn, IsNamedSignal, I
 use Rattle.qpu_asm.specs.declared.mark.What.{What}
 use Rattle.qpu_asm.specs.declared.mark.What.TheVariants as what
 use Rattle.qpu_asm.specs.declared.mark.Mark.{Mark}
-use Rattle.qpu_asm.specs.Meanings.{address_a, address_b, reads_by, unless}
+use Rattle.qpu_asm.specs.reader.Meanings.{address_a, address_b, reads_by, unless}
 use Rattle.qpu_asm.proofs.MarkLemmas.{Has, before_join, IsClear}
 use Rattle.qpu_asm.proofs.UnitMarks.{AddSaid, MulSaid}
 use Rattle.qpu_asm.proofs.ExtraMarks.{SignalSaid, is_turn, OtherSaid}

@@ -8,8 +8,8 @@ use Rattle.qpu_line.specs.Units.{to_of}
 use Rattle.qpu_line.specs.Named.{IsNamedOperand, IsNamedPart}
 use Rattle.qpu_asm.specs.declared.mark.What.TheVariants as what
 use Rattle.qpu_asm.specs.declared.mark.Mark.{Mark}
-use Rattle.qpu_asm.specs.Judging.{cross}
-use Rattle.qpu_asm.specs.Meanings.{address_a, address_b, reads_by, unless}
+use Rattle.qpu_asm.specs.reader.Judging.{cross}
+use Rattle.qpu_asm.specs.reader.Meanings.{address_a, address_b, reads_by, unless}
 use Rattle.qpu_asm.proofs.MarkLemmas.{has_left, before_left, IsClear}
 use Rattle.qpu_asm.proofs.OperandMarks.{Marked, IsSaid}
 use Rattle.qpu_asm.proofs.UnitMarks.{AddSaid, MulSaid}
@@ -35,6 +35,8 @@ pub clear_left : (xs ys : List Mark) → IsClear (xs ++ ys) → IsClear xs
 clear_left xs ys c = record {
   right = λ a. c.right (has_left _ xs ys a);
   near = λ a. c.near (has_left _ xs ys a);
+  known = λ a. c.known (has_left _ xs ys a);
+  sets = λ a. c.sets (before_left _ _ xs ys a);
   reads_a = λ n m a b. c.reads_a n m (has_left _ xs ys a) (has_left _ xs ys b);
   reads_b = λ n m a b. c.reads_b n m (has_left _ xs ys a) (has_left _ xs ys b);
   numbers = λ n m a b. c.numbers n m (has_left _ xs ys a) (has_left _ xs ys b);

@@ -14,7 +14,7 @@ use Rattle.qpu_expr.specs.Expansion.{Left, expansion}
 use Rattle.qpu_asm.specs.declared.line.Line.{Line}
 use Rattle.qpu_token.specs.Stops.{no_memory}
 use Rattle.qpu_asm.specs.Placed.{Labels, placed_token}
-use Rattle.qpu_asm.specs.LinesRead.{read_line, word_in}
+use Rattle.qpu_asm.specs.reader.LinesRead.{read_line, word_in}
 
 -- the first fault ends it
 abbrev pub and_then : {A B : Type 0} → Result A AsmFault → (A → Result B AsmFault) → Result B AsmFault

@@ -6,7 +6,7 @@ ghost use Rattle.qpu_line.specs.Lines.{line_symbols};
 ghost use Rattle.qpu_line.specs.Named.{HasWord};
 ghost use Rattle.qpu_asm.specs.declared.placed.Placed.{Placed};
 ghost use Rattle.qpu_asm.specs.declared.line.Line.TheVariants.{Says};
-ghost use Rattle.qpu_asm.specs.LinesRead.{read_line};
+ghost use Rattle.qpu_asm.specs.reader.LinesRead.{read_line};
 
 /// Tokens that spell the canonical line of an instruction that has a word, wherever they stand and
 /// wherever the line ends, are read as that instruction, at any place of a program.

@@ -5,6 +5,7 @@ ghost use Rattle.qpu_expr.specs.declared.limits.TheConstants.{MOST_WORDS};
 ghost use Rattle.qpu_expr.specs.Expansion.{Left};
 ghost use Rattle.qpu_asm.specs.Placed.{placed_token};
 ghost use Rattle.qpu_token.specs.Stops.{Answers, Leads};
+ghost use Rattle.qpu_asm.specs.SpelledTexts.{AreSpelled};
 ghost use Rattle.qpu_asm.specs.Assembly.{label_put, labels_of, closing_token, line_at, word_behind, words_of_lines, encoding, AreWords, IsItsFault};
 
 use crate::line::{Line, read_line};
@@ -187,13 +188,14 @@ fn assemble_tokens(alloc: Global, text: &str, tokens: &[Token]) -> Result<Vec<Wo
     }
 }
 
-/// The words of a text of at most `MOST_BYTES` bytes, in order. The one error beside want of memory is
-/// the first fault of the text, with its kind and place: of its tokens, then of its expansion, then of
-/// the lines that are left.
-#[tactic(auto, using(crate::proofs::AnswerLemmas::token_fault))]
+/// The words of a text of at most `MOST_BYTES` bytes, in order: those that the lines which its expansion
+/// leaves spell, by the grammar of lines. The one error beside want of memory is the first fault of the
+/// text, with its kind and place: of its tokens, then of its expansion, then of the lines that are left.
+#[tactic(auto, using(crate::proofs::AnswerLemmas::token_fault, crate::proofs::TextLaw::words_are_spelled))]
 pub fn assemble(alloc: Global, text: &str) -> Result<Vec<Word>, AsmFault>
     requires { length text.now ≤ MOST_BYTES }
     ensures ok { IfOk result (λ words. AreWords text.now words.items) }
+    ensures spelled { IfOk result (λ words. AreSpelled text.now words.items) }
     ensures few { IfOk result (λ words. length words.items ≤ MOST_WORDS) }
     ensures err { IfErr result (λ fault. IsItsFault text.now fault) }
 {

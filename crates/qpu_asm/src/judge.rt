@@ -1,7 +1,7 @@
 //! The faults of a line's marks, kind by kind.
 ghost use Rattle.std.specs.Prelude.{◌≡◌, []};
 ghost use Rattle.std.specs.List.{list_any};
-ghost use Rattle.qpu_asm.specs.Judging.{is_wrong, cross, not_beside, other_immediate, other_read, clashes, is_faulty, first_faulty, kind_of, fault_at, fault_of_kind, line_fault};
+ghost use Rattle.qpu_asm.specs.reader.Judging.{is_wrong, cross, not_beside, other_immediate, other_read, clashes, is_faulty, first_faulty, kind_of, fault_at, fault_of_kind, line_fault};
 
 use crate::mark::{Mark, What};
 use qpu_token::{AsmFault, AsmKind, Token};
@@ -150,7 +150,7 @@ pub(crate) fn fault_at(kind: AsmKind, token: Token) -> AsmFault
 }
 
 /// The first fault of a kind.
-#[tactic(auto, unfolding(crate::specs::Judging::fault_of_kind))]
+#[tactic(auto, unfolding(crate::specs::reader::Judging::fault_of_kind))]
 fn fault_of_kind(marks: &[Mark], kind: Judged) -> Option<AsmFault>
     ensures { result ≡ fault_of_kind marks.now kind }
 {
@@ -161,7 +161,7 @@ fn fault_of_kind(marks: &[Mark], kind: Judged) -> Option<AsmFault>
 }
 
 /// The fault of a line's marks.
-#[tactic(auto, unfolding(crate::specs::Judging::line_fault))]
+#[tactic(auto, unfolding(crate::specs::reader::Judging::line_fault))]
 pub(crate) fn line_fault(marks: &[Mark]) -> Option<AsmFault>
     ensures { result ≡ line_fault marks.now }
 {

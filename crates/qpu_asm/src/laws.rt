@@ -1,5 +1,9 @@
 //! Laws of lines. Each is a function without a body; its clause is the law.
-ghost use Rattle.std.specs.Prelude.{◌≡◌, ◌↔◌, ℕ, List, Result, Ok, All, map};
+ghost use Rattle.std.specs.Prelude.{◌≡◌, ◌↔◌, ℕ, List, [], ◌∷◌, None, Result, Ok, All, map};
+ghost use Rattle.qpu_word.specs.declared.operation.AddOp.TheVariants.{Or};
+ghost use Rattle.qpu_line.specs.declared.name.Name.TheVariants as name;
+ghost use Rattle.qpu_line.specs.declared.name.Register.TheVariants.{Accumulator};
+ghost use Rattle.qpu_line.specs.declared.symbol.Symbol.TheVariants as symbol;
 ghost use Rattle.qpu_token.specs.declared.token.Token.{Token as TokenOf};
 ghost use Rattle.qpu_token.specs.declared.fault.AsmFault.{AsmFault as AsmFaultOf};
 ghost use Rattle.qpu_line.specs.declared.instruction.Instruction.{Instruction as InstructionOf};
@@ -7,9 +11,11 @@ ghost use Rattle.qpu_line.specs.Named.{HasWord};
 ghost use Rattle.qpu_asm.specs.declared.placed.Placed.{Placed as PlacedOf};
 ghost use Rattle.qpu_asm.specs.declared.line.Line.TheVariants.{Raw, Says};
 ghost use Rattle.qpu_asm.specs.Placed.{placed_token, Labels};
-ghost use Rattle.qpu_asm.specs.LinesRead.{read_line};
+ghost use Rattle.qpu_asm.specs.reader.LinesRead.{read_line};
 ghost use Rattle.qpu_asm.specs.Assembly.{IsAssembly};
 ghost use Rattle.qpu_asm.specs.Laws.{IsProper, symbols_of, word_symbols};
+ghost use Rattle.qpu_asm.specs.Spells.{Spells, IsSpelled};
+ghost use Rattle.qpu_asm.specs.SpelledTexts.{SpellsText};
 
 /// The names among a text's tokens are names of the language.
 #[tactic(auto, using(crate::proofs::ProperTokens::placed_proper))]
@@ -22,7 +28,28 @@ pub fn lines_have_words()
     ensures { (at : ℕ) (end : TokenOf) (xs : List PlacedOf) (i : InstructionOf) → All IsProper xs → read_line at end xs ≡ Ok (Says i) → HasWord i }
 {}
 
-/// So what a line of a text says has one, whatever its tokens are.
+/// A line of the language's names says an instruction exactly where its symbols spell it, by the grammar
+/// of lines.
+pub fn lines_spell_what_they_say()
+    ensures { (at : ℕ) (end : TokenOf) (xs : List PlacedOf) (i : InstructionOf) → All IsProper xs → read_line at end xs ≡ Ok (Says i) ↔ IsSpelled at xs i }
+{}
+
+/// So does a line of a text, whatever its tokens are.
+pub fn lines_of_texts_spell_what_they_say()
+    ensures { (text : List ℕ) (labels : Labels) (at : ℕ) (end : TokenOf) (tokens : List TokenOf) (i : InstructionOf) → read_line at end (map (placed_token text labels) tokens) ≡ Ok (Says i) ↔ IsSpelled at (map (placed_token text labels) tokens) i }
+{}
+
+/// A text has words exactly where its lines spell them, one each.
+pub fn texts_have_the_words_they_spell()
+    ensures { (text : List ℕ) (words : List ℕ) → IsAssembly text (Ok words) ↔ SpellsText text words }
+{}
+
+/// `or r0, 1, 2` spells no instruction.
+pub fn two_immediates_spell_nothing()
+    ensures { (at : ℕ) (i : InstructionOf) → Spells at None (symbol.Name (name.Add Or) ∷ symbol.Name (name.Register (Accumulator 0)) ∷ symbol.Comma ∷ symbol.Number 1 ∷ symbol.Comma ∷ symbol.Number 2 ∷ []) i → ⊥ }
+{}
+
+/// What a line of a text says has a word, whatever its tokens are.
 #[tactic(auto, using(crate::proofs::LineLaw::text_lines_law))]
 pub fn lines_of_texts_have_words()
     ensures { (text : List ℕ) (labels : Labels) (at : ℕ) (end : TokenOf) (tokens : List TokenOf) (i : InstructionOf) → read_line at end (map (placed_token text labels) tokens) ≡ Ok (Says i) → HasWord i }

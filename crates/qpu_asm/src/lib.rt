@@ -29,7 +29,8 @@ mod words;
 pub use again::canonical_lines_are_read;
 pub use assembly::assemble;
 pub use laws::{
-    lines_have_words, lines_of_texts_have_words, placed_tokens_are_proper, raw_lines_are_words,
-    texts_have_one_answer,
+    lines_have_words, lines_of_texts_have_words, lines_of_texts_spell_what_they_say,
+    lines_spell_what_they_say, placed_tokens_are_proper, raw_lines_are_words,
+    texts_have_one_answer, texts_have_the_words_they_spell, two_immediates_spell_nothing,
 };
 pub use words::words_of;

@@ -1,8 +1,8 @@
 //! What a line says, or its first fault.
 ghost use Rattle.std.specs.Prelude.{◌≡◌, Ok};
-ghost use Rattle.qpu_asm.specs.Sections.{parts_of};
+ghost use Rattle.qpu_asm.specs.reader.Sections.{parts_of};
 ghost use Rattle.qpu_token.specs.Stops.{Answers};
-ghost use Rattle.qpu_asm.specs.LinesRead.{word_number, set_value, set_comma, set_name, directive, first_token, label_fault, unknown_fault, by_parts, instruction_line, read_line, word_in};
+ghost use Rattle.qpu_asm.specs.reader.LinesRead.{word_number, set_value, set_comma, set_name, directive, first_token, label_fault, unknown_fault, by_parts, instruction_line, read_line, word_in};
 
 use crate::expression::expression_length;
 use crate::judge::{fault_at, line_fault};
@@ -159,7 +159,7 @@ fn line_of_sections(alloc: Global, at: u32, end: Token, sections: &[Section]) ->
 }
 
 /// A line of instructions.
-#[tactic(auto, unfolding(crate::specs::LinesRead::instruction_line))]
+#[tactic(auto, unfolding(crate::specs::reader::LinesRead::instruction_line))]
 fn instruction_line(alloc: Global, at: u32, end: Token, xs: &[Placed]) -> Result<Line, Stop>
     ensures { Answers (instruction_line at end xs.now) result }
 {
@@ -171,7 +171,7 @@ fn instruction_line(alloc: Global, at: u32, end: Token, xs: &[Placed]) -> Result
 }
 
 /// What a line with an end says, at a place of the program.
-#[tactic(auto, unfolding(crate::specs::LinesRead::read_line))]
+#[tactic(auto, unfolding(crate::specs::reader::LinesRead::read_line))]
 pub(crate) fn read_line(alloc: Global, at: u32, end: Token, xs: &[Placed]) -> Result<Line, Stop>
     ensures { Answers (read_line at end xs.now) result }
 {

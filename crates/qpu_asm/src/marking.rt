@@ -1,7 +1,7 @@
 //! The marks of a line's parts.
 ghost use Rattle.std.specs.Prelude.{◌≡◌, true, fold, IfOk, OnOk};
 ghost use Rattle.qpu_word.specs.Words.{is_link_address};
-ghost use Rattle.qpu_asm.specs.Marks.{is_condition, is_set_flags, is_branch_condition, first_suffix, has_condition, second_suffix, suffix_marks, condition_marks, branch_marks, no_suffix, target_place, place_mark, is_pack, is_row, pack_marks, target_marks, somewhere, if_link, unpack_name, unpack_marks, source_marks, number_marks, nowhere_at, operand_marks, unit_marks, any_number, number_between, load_marks, also_marks, jump_marks, jumping_marks, is_row_name, is_r5, rotation_marks, source_in, other_a, other_b, part_marks, marks_of};
+ghost use Rattle.qpu_asm.specs.reader.Marks.{is_condition, is_set_flags, is_branch_condition, first_suffix, has_condition, second_suffix, suffix_marks, condition_marks, branch_marks, no_suffix, target_place, place_mark, is_pack, is_row, pack_marks, target_marks, somewhere, if_link, unpack_name, unpack_marks, source_marks, number_marks, nowhere_at, operand_marks, unit_marks, any_number, number_between, load_marks, also_marks, jump_marks, jumping_marks, is_row_name, is_r5, rotation_marks, source_in, other_a, other_b, part_marks, marks_of};
 
 use crate::mark::{Marks, What, code_of};
 use crate::part::{AlsoPart, BranchPart, LoadPart, Part, Suffixes, UnitPart};
@@ -198,7 +198,7 @@ impl Marks {
     }
 
     /// The suffixes of a unit or load.
-    #[tactic(auto, unfolding(crate::specs::Marks::suffix_marks))]
+    #[tactic(auto, unfolding(crate::specs::reader::Marks::suffix_marks))]
     fn put_suffixes(&mut self, mul: bool, suffixes: Suffixes) -> Result<(), AllocError>
         ensures { OnOk result (self.new ≡ suffix_marks mul suffixes self.old) }
     {
@@ -257,7 +257,7 @@ impl Marks {
     }
 
     /// A unit's target.
-    #[tactic(auto, unfolding(crate::specs::Marks::target_marks))]
+    #[tactic(auto, unfolding(crate::specs::reader::Marks::target_marks))]
     fn put_target(&mut self, to: Piece) -> Result<(), AllocError>
         ensures { OnOk result (self.new ≡ target_marks to self.old) }
     {
@@ -317,7 +317,7 @@ impl Marks {
     }
 
     /// An operand.
-    #[tactic(auto, unfolding(crate::specs::Marks::operand_marks))]
+    #[tactic(auto, unfolding(crate::specs::reader::Marks::operand_marks))]
     fn put_operand(&mut self, mul: bool, piece: Piece) -> Result<(), AllocError>
         ensures { OnOk result (self.new ≡ operand_marks mul piece self.old) }
     {
@@ -330,7 +330,7 @@ impl Marks {
     }
 
     /// A unit's part.
-    #[tactic(auto, unfolding(crate::specs::Marks::unit_marks))]
+    #[tactic(auto, unfolding(crate::specs::reader::Marks::unit_marks))]
     fn put_unit(&mut self, mul: bool, unit: UnitPart) -> Result<(), AllocError>
         ensures { OnOk result (self.new ≡ unit_marks mul unit self.old) }
     {
@@ -362,7 +362,7 @@ impl Marks {
     }
 
     /// A load's part.
-    #[tactic(auto, unfolding(crate::specs::Marks::load_marks))]
+    #[tactic(auto, unfolding(crate::specs::reader::Marks::load_marks))]
     fn put_load(&mut self, load: LoadPart) -> Result<(), AllocError>
         ensures { OnOk result (self.new ≡ load_marks load self.old) }
     {
@@ -372,7 +372,7 @@ impl Marks {
     }
 
     /// A load's second target.
-    #[tactic(auto, unfolding(crate::specs::Marks::also_marks))]
+    #[tactic(auto, unfolding(crate::specs::reader::Marks::also_marks))]
     fn put_also(&mut self, also: AlsoPart) -> Result<(), AllocError>
         ensures { OnOk result (self.new ≡ also_marks also self.old) }
     {
@@ -394,7 +394,7 @@ impl Marks {
     }
 
     /// A branch's part.
-    #[tactic(auto, unfolding(crate::specs::Marks::jumping_marks))]
+    #[tactic(auto, unfolding(crate::specs::reader::Marks::jumping_marks))]
     fn put_branch(&mut self, branch: BranchPart) -> Result<(), AllocError>
         ensures { OnOk result (self.new ≡ jumping_marks branch self.old) }
     {
@@ -434,7 +434,7 @@ impl Marks {
     }
 
     /// A part; behind the first part a unit's is the mul unit's.
-    #[tactic(auto, unfolding(crate::specs::Marks::part_marks))]
+    #[tactic(auto, unfolding(crate::specs::reader::Marks::part_marks))]
     fn put_part(&mut self, mul: bool, part: Part) -> Result<(), AllocError>
         ensures { OnOk result (self.new ≡ part_marks mul self.old part) }
     {
@@ -474,7 +474,7 @@ fn put_later(marks: &mut Marks, later: &[Part]) -> Result<(), AllocError>
 }
 
 /// The marks of a line's parts.
-#[tactic(auto, unfolding(crate::specs::Marks::marks_of))]
+#[tactic(auto, unfolding(crate::specs::reader::Marks::marks_of))]
 pub(crate) fn marks_of(alloc: Global, parts: &[Part]) -> Result<Marks, AllocError>
     ensures { IfOk result (λ marks. marks ≡ marks_of parts.now) }
 {

@@ -2,7 +2,8 @@
 ghost use Rattle.std.specs.Prelude.{◌≡◌, Some};
 ghost use Rattle.qpu_asm.specs.declared.piece.Core.TheVariants.{Label};
 ghost use Rattle.qpu_asm.specs.Roles.{op_in_add as add_code_of, op_in_mul as mul_code_of};
-ghost use Rattle.qpu_asm.specs.Meanings.{condition_in, branch_condition_in, sets_flags, sets_in, pack_in, unpack_in, place_of, is_nowhere, number_of, with_unpack, operand_of_core, operand_of, condition_at, unit_of, mul_in, unit_does, unit_sets, rotation_of, signal_part, signal_in, address_a, address_b, reads_by, other_a_part, other_b_part, first_told, unless, units_of_parts, write_in, also_in, load_of_part, distance, target_row, row_part, link_in, branch_of_part, step, meaning};
+ghost use Rattle.qpu_asm.specs.SpelledPieces.{is_nowhere};
+ghost use Rattle.qpu_asm.specs.reader.Meanings.{condition_in, branch_condition_in, sets_flags, sets_in, pack_in, unpack_in, place_of, number_of, with_unpack, operand_of_core, operand_of, condition_at, unit_of, mul_in, unit_does, unit_sets, rotation_of, signal_part, signal_in, address_a, address_b, reads_by, other_a_part, other_b_part, first_told, unless, units_of_parts, write_in, also_in, load_of_part, distance, target_row, row_part, link_in, branch_of_part, step, meaning};
 
 use crate::mark::code_of;
 use crate::marking::{is_r5, is_set_flags, source_in, target_place, unpack_name};
@@ -157,7 +158,7 @@ fn condition_at(to: Place, suffix: Option<Suffix>) -> u32
 }
 
 /// What a unit does whose operation has a code.
-#[tactic(auto, unfolding(crate::specs::Meanings::unit_of))]
+#[tactic(auto, unfolding(crate::specs::reader::Meanings::unit_of))]
 fn unit_of(op: u32, unit: UnitPart) -> UnitDoes
     ensures { result ≡ unit_of op unit }
 {
@@ -338,7 +339,7 @@ fn unless(named: bool, other: Option<u32>) -> Option<u32>
 }
 
 /// What both units do.
-#[tactic(auto, unfolding(crate::specs::Meanings::units_of_parts))]
+#[tactic(auto, unfolding(crate::specs::reader::Meanings::units_of_parts))]
 fn units_of_parts(first: Option<UnitPart>, later: &[Part]) -> Units
     ensures { result ≡ units_of_parts first later.now }
 {
@@ -381,7 +382,7 @@ fn also_in(later: &[Part]) -> Option<Write>
 }
 
 /// A load.
-#[tactic(auto, unfolding(crate::specs::Meanings::load_of_part))]
+#[tactic(auto, unfolding(crate::specs::reader::Meanings::load_of_part))]
 fn load_of_part(load: LoadPart, later: &[Part]) -> Load
     ensures { result ≡ load_of_part load later.now }
 {
@@ -464,7 +465,7 @@ fn link_in(later: &[Part]) -> Place
 }
 
 /// A branch at a place of the program.
-#[tactic(auto, unfolding(crate::specs::Meanings::branch_of_part))]
+#[tactic(auto, unfolding(crate::specs::reader::Meanings::branch_of_part))]
 fn branch_of_part(at: u32, branch: BranchPart, later: &[Part]) -> Branch
     ensures { result ≡ branch_of_part at branch later.now }
 {
@@ -489,7 +490,7 @@ fn step(down: bool, number: Piece) -> Semaphore
 }
 
 /// The instruction of a line's parts at a place of the program.
-#[tactic(auto, unfolding(crate::specs::Meanings::meaning))]
+#[tactic(auto, unfolding(crate::specs::reader::Meanings::meaning))]
 pub(crate) fn meaning(at: u32, first: Part, later: &[Part]) -> Instruction
     ensures { result ≡ meaning at first later.now }
 {

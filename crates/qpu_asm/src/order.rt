@@ -1,7 +1,7 @@
 //! Which parts may follow which in a line.
 ghost use Rattle.std.specs.Prelude.{◌≡◌};
 ghost use Rattle.std.specs.List.{list_any};
-ghost use Rattle.qpu_asm.specs.Orders.{begins, is_nop, is_unit, is_rotation, is_signal, is_read_a, is_read_b, is_link, is_row, no, extra, second, unit_follows, load_follows, is_name, branch_follows, follows, due};
+ghost use Rattle.qpu_asm.specs.reader.Orders.{begins, is_nop, is_unit, is_rotation, is_signal, is_read_a, is_read_b, is_link, is_row, no, extra, second, unit_follows, load_follows, is_name, branch_follows, follows, due};
 
 use crate::part::{BranchPart, Part};
 use crate::piece::Core;
@@ -177,7 +177,7 @@ fn follows(first: Part, later: &[Part], name: Name) -> bool
 }
 
 /// Whether a part with a mnemonic may stand behind others.
-#[tactic(auto, unfolding(crate::specs::Orders::due))]
+#[tactic(auto, unfolding(crate::specs::reader::Orders::due))]
 pub(crate) fn due(earlier: &[Part], name: Name) -> bool
     ensures { result ≡ due earlier.now name }
 {

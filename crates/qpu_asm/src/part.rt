@@ -1,7 +1,7 @@
 //! Parts of a line, by their mnemonics. What their names stand for isn't judged yet.
 ghost use Rattle.std.specs.Prelude.{◌≡◌};
-ghost use Rattle.qpu_asm.specs.Reading.{told, ended};
-ghost use Rattle.qpu_asm.specs.Parts.{suffixes_at, one_operand, two_operands, operands_at, unit_part, load_part, also_part, branch_part, last_value, last_name, part_by};
+ghost use Rattle.qpu_asm.specs.reader.Reading.{told, ended};
+ghost use Rattle.qpu_asm.specs.reader.Parts.{suffixes_at, one_operand, two_operands, operands_at, unit_part, load_part, also_part, branch_part, last_value, last_name, part_by};
 
 use crate::piece::{
     Piece, Suffix, comma_at, jump_core, operand_at, suffix_at, target_at, target_core, value_core,
@@ -104,7 +104,7 @@ pub(crate) enum Part {
 }
 
 /// At most two suffixes.
-#[tactic(auto, unfolding(crate::specs::Parts::suffixes_at))]
+#[tactic(auto, unfolding(crate::specs::reader::Parts::suffixes_at))]
 fn suffixes_at(xs: &[Placed]) -> Result<(Suffixes, &[Placed]), Token>
     ensures { told result ≡ suffixes_at xs.now }
 {
@@ -114,7 +114,7 @@ fn suffixes_at(xs: &[Placed]) -> Result<(Suffixes, &[Placed]), Token>
 }
 
 /// One operand, with which the part ends.
-#[tactic(auto, unfolding(crate::specs::Parts::one_operand))]
+#[tactic(auto, unfolding(crate::specs::reader::Parts::one_operand))]
 fn one_operand(end: Token, xs: &[Placed]) -> Result<(Piece, Piece), Token>
     ensures { result ≡ one_operand end xs.now }
 {
@@ -123,7 +123,7 @@ fn one_operand(end: Token, xs: &[Placed]) -> Result<(Piece, Piece), Token>
 }
 
 /// Two operands, with which the part ends.
-#[tactic(auto, unfolding(crate::specs::Parts::two_operands))]
+#[tactic(auto, unfolding(crate::specs::reader::Parts::two_operands))]
 fn two_operands(end: Token, xs: &[Placed]) -> Result<(Piece, Piece), Token>
     ensures { result ≡ two_operands end xs.now }
 {
@@ -155,7 +155,7 @@ fn operands_at(op: Name, end: Token, xs: &[Placed]) -> Result<(Piece, Piece), To
 }
 
 /// A unit's part behind its mnemonic.
-#[tactic(auto, unfolding(crate::specs::Parts::unit_part))]
+#[tactic(auto, unfolding(crate::specs::reader::Parts::unit_part))]
 fn unit_part(op: Name, token: Token, end: Token, xs: &[Placed]) -> Result<Part, Token>
     ensures { result ≡ unit_part op token end xs.now }
 {
@@ -174,7 +174,7 @@ fn unit_part(op: Name, token: Token, end: Token, xs: &[Placed]) -> Result<Part, 
 }
 
 /// A load's part behind its mnemonic.
-#[tactic(auto, unfolding(crate::specs::Parts::load_part))]
+#[tactic(auto, unfolding(crate::specs::reader::Parts::load_part))]
 fn load_part(kind: LoadKind, end: Token, xs: &[Placed]) -> Result<Part, Token>
     ensures { result ≡ load_part kind end xs.now }
 {
@@ -194,7 +194,7 @@ fn load_part(kind: LoadKind, end: Token, xs: &[Placed]) -> Result<Part, Token>
 }
 
 /// A load's second target behind its mnemonic.
-#[tactic(auto, unfolding(crate::specs::Parts::also_part))]
+#[tactic(auto, unfolding(crate::specs::reader::Parts::also_part))]
 fn also_part(end: Token, xs: &[Placed]) -> Result<Part, Token>
     ensures { result ≡ also_part end xs.now }
 {
@@ -204,7 +204,7 @@ fn also_part(end: Token, xs: &[Placed]) -> Result<Part, Token>
 }
 
 /// A branch's part behind its mnemonic.
-#[tactic(auto, unfolding(crate::specs::Parts::branch_part))]
+#[tactic(auto, unfolding(crate::specs::reader::Parts::branch_part))]
 fn branch_part(relative: bool, end: Token, xs: &[Placed]) -> Result<Part, Token>
     ensures { result ≡ branch_part relative end xs.now }
 {
@@ -224,7 +224,7 @@ fn branch_part(relative: bool, end: Token, xs: &[Placed]) -> Result<Part, Token>
 }
 
 /// A number with which a part ends.
-#[tactic(auto, unfolding(crate::specs::Parts::last_value))]
+#[tactic(auto, unfolding(crate::specs::reader::Parts::last_value))]
 fn last_value(end: Token, xs: &[Placed]) -> Result<Piece, Token>
     ensures { result ≡ last_value end xs.now }
 {
@@ -233,7 +233,7 @@ fn last_value(end: Token, xs: &[Placed]) -> Result<Piece, Token>
 }
 
 /// A name with which a part ends.
-#[tactic(auto, unfolding(crate::specs::Parts::last_name))]
+#[tactic(auto, unfolding(crate::specs::reader::Parts::last_name))]
 fn last_name(end: Token, xs: &[Placed]) -> Result<Piece, Token>
     ensures { result ≡ last_name end xs.now }
 {
@@ -242,7 +242,7 @@ fn last_name(end: Token, xs: &[Placed]) -> Result<Piece, Token>
 }
 
 /// The part behind a mnemonic. The error is the first token that isn't due, or the part's end.
-#[tactic(auto, unfolding(crate::specs::Parts::part_by))]
+#[tactic(auto, unfolding(crate::specs::reader::Parts::part_by))]
 pub(crate) fn part_by(name: Name, token: Token, end: Token, xs: &[Placed]) -> Result<Part, Token>
     ensures { result ≡ part_by name token end xs.now }
 {

@@ -1,7 +1,7 @@
 //! Pieces of a part: targets, operands, numbers and labels, with their suffixes.
 ghost use Rattle.std.specs.Prelude.{◌≡◌, drop};
-ghost use Rattle.qpu_asm.specs.Reading.{told, left_behind};
-ghost use Rattle.qpu_asm.specs.Pieces.{named, suffix_at, stops, alone, name_alone, bare, target_core, value_core, label_core, jump_core, has_dot, operand_core, target_at, operand_at, comma_at};
+ghost use Rattle.qpu_asm.specs.reader.Reading.{told, left_behind};
+ghost use Rattle.qpu_asm.specs.reader.Pieces.{named, suffix_at, stops, alone, name_alone, bare, target_core, value_core, label_core, jump_core, has_dot, operand_core, target_at, operand_at, comma_at};
 
 use crate::expression::expression_length;
 use crate::placed::Placed;
@@ -121,7 +121,7 @@ fn bare(core: Core, token: Token) -> Piece
 }
 
 /// A target at the front: a name or `-`. The error is the token that isn't due, or the end.
-#[tactic(auto, unfolding(crate::specs::Pieces::target_core))]
+#[tactic(auto, unfolding(crate::specs::reader::Pieces::target_core))]
 pub(crate) fn target_core(end: Token, xs: &[Placed]) -> Result<(Piece, &[Placed]), Token>
     ensures { told result ≡ target_core end xs.now }
 {
@@ -141,7 +141,7 @@ pub(crate) fn target_core(end: Token, xs: &[Placed]) -> Result<(Piece, &[Placed]
 
 /// An operand or number at the front. The error is the token that isn't due, or the end. An expression
 /// of several tokens isn't worked out, so that it is none that a line may have.
-#[tactic(auto, unfolding(crate::specs::Pieces::value_core))]
+#[tactic(auto, unfolding(crate::specs::reader::Pieces::value_core))]
 pub(crate) fn value_core(end: Token, xs: &[Placed]) -> Result<(Piece, &[Placed]), Token>
     ensures { told result ≡ value_core end xs.now }
 {
@@ -177,7 +177,7 @@ fn label_core(end: Token, xs: &[Placed]) -> Result<(Piece, &[Placed]), Token>
 
 /// The target of a branch at the front: a label, a number or a name. The error is the token that isn't
 /// due, or the end.
-#[tactic(auto, unfolding(crate::specs::Pieces::jump_core))]
+#[tactic(auto, unfolding(crate::specs::reader::Pieces::jump_core))]
 pub(crate) fn jump_core(end: Token, xs: &[Placed]) -> Result<(Piece, &[Placed]), Token>
     ensures { told result ≡ jump_core end xs.now }
 {
@@ -199,7 +199,7 @@ fn has_dot(xs: &[Placed]) -> bool
 
 /// An operand of a unit at the front, its suffix aside. `-` is one only where a suffix stands behind it. The
 /// error is the token that isn't due, or the end.
-#[tactic(auto, unfolding(crate::specs::Pieces::operand_core))]
+#[tactic(auto, unfolding(crate::specs::reader::Pieces::operand_core))]
 fn operand_core(end: Token, xs: &[Placed]) -> Result<(Piece, &[Placed]), Token>
     ensures { told result ≡ operand_core end xs.now }
 {
@@ -213,7 +213,7 @@ fn operand_core(end: Token, xs: &[Placed]) -> Result<(Piece, &[Placed]), Token>
 }
 
 /// A target with its suffix.
-#[tactic(auto, unfolding(crate::specs::Pieces::target_at))]
+#[tactic(auto, unfolding(crate::specs::reader::Pieces::target_at))]
 pub(crate) fn target_at(end: Token, xs: &[Placed]) -> Result<(Piece, &[Placed]), Token>
     ensures { told result ≡ target_at end xs.now }
 {
@@ -223,7 +223,7 @@ pub(crate) fn target_at(end: Token, xs: &[Placed]) -> Result<(Piece, &[Placed]),
 }
 
 /// An operand with its suffix.
-#[tactic(auto, unfolding(crate::specs::Pieces::operand_at))]
+#[tactic(auto, unfolding(crate::specs::reader::Pieces::operand_at))]
 pub(crate) fn operand_at(end: Token, xs: &[Placed]) -> Result<(Piece, &[Placed]), Token>
     ensures { told result ≡ operand_at end xs.now }
 {

@@ -1,7 +1,7 @@
 //! The sections of a line, between its signs `;`, and the parts that they are.
 ghost use Rattle.std.specs.Prelude.{◌≡◌, [], None, IfOk, OnOk};
-ghost use Rattle.qpu_asm.specs.PartsRead.{parts_read};
-ghost use Rattle.qpu_asm.specs.Sections.{Cutting, nothing_cut, put_section, cut_on, sections_of, part_in, unknown_symbol, unknown_in, fault_of, own_fault, first_of, part_after, parts_on, parts_of};
+ghost use Rattle.qpu_asm.specs.reader.PartsRead.{parts_read};
+ghost use Rattle.qpu_asm.specs.reader.Sections.{Cutting, nothing_cut, put_section, cut_on, sections_of, part_in, unknown_symbol, unknown_in, fault_of, own_fault, first_of, part_after, parts_on, parts_of};
 
 use crate::order::due;
 use crate::part::{Part, part_by};
@@ -23,7 +23,7 @@ pub(crate) struct Section {
 }
 
 impl Model for Section {
-    ghost use Rattle.qpu_asm.specs.SectionTokens.{SectionTokens};
+    ghost use Rattle.qpu_asm.specs.reader.SectionTokens.{SectionTokens};
 
     ghost Value = { SectionTokens };
 
@@ -38,7 +38,7 @@ struct Cutter {
 }
 
 impl Model for Cutter {
-    ghost use Rattle.qpu_asm.specs.Sections.{Cutting};
+    ghost use Rattle.qpu_asm.specs.reader.Sections.{Cutting};
 
     ghost Value = { Cutting };
 
@@ -78,7 +78,7 @@ impl Cutter {
 }
 
 /// The sections of a line's tokens before its end.
-#[tactic(auto, unfolding(crate::specs::Sections::sections_of), using(std::proofs::lemmas::List::Sums::fold_more))]
+#[tactic(auto, unfolding(crate::specs::reader::Sections::sections_of), using(std::proofs::lemmas::List::Sums::fold_more))]
 pub(crate) fn sections_of(
     alloc: Global,
     end: Token,
@@ -188,7 +188,7 @@ impl Model for Parts {
     ghost use Rattle.std.specs.Prelude.{List, Result};
     ghost use Rattle.qpu_token.specs.declared.token.Token.{Token};
     ghost use Rattle.qpu_asm.specs.declared.part.Part.{Part};
-    ghost use Rattle.qpu_asm.specs.PartsRead.{parts_read};
+    ghost use Rattle.qpu_asm.specs.reader.PartsRead.{parts_read};
 
     ghost Value = { Result (List Part) Token };
 
@@ -222,7 +222,7 @@ impl Parts {
 }
 
 /// The parts of a line, or the first token that isn't due.
-#[tactic(auto, unfolding(crate::specs::Sections::parts_of), using(std::proofs::lemmas::List::Sums::fold_more))]
+#[tactic(auto, unfolding(crate::specs::reader::Sections::parts_of), using(std::proofs::lemmas::List::Sums::fold_more))]
 pub(crate) fn parts_of(alloc: Global, sections: &[Section]) -> Result<Parts, AllocError>
     ensures { IfOk result (λ parts. parts ≡ parts_of sections.now) }
 {

@@ -1,5 +1,5 @@
 use Rattle.std.proofs.Common.{◌≡◌, [], take, drop}
-use Rattle.qpu_asm.specs.Judging.{first_faulty}
+use Rattle.qpu_asm.specs.reader.Judging.{first_faulty}
 use Rattle.qpu_asm.proofs.judge.first_faulty.Given as goal
 
 abbrev pub invariant-loop-i : goal.invariant-loop-i

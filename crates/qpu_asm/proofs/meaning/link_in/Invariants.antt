@@ -1,5 +1,5 @@
 use Rattle.std.proofs.Common.{◌≡◌, drop}
-use Rattle.qpu_asm.specs.Meanings.{link_in}
+use Rattle.qpu_asm.specs.reader.Meanings.{link_in}
 use Rattle.qpu_asm.proofs.meaning.link_in.Given as goal
 
 abbrev pub invariant-loop-part : goal.invariant-loop-part

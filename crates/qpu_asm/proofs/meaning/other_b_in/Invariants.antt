@@ -1,5 +1,5 @@
 use Rattle.std.proofs.Common.{◌≡◌, drop}
-use Rattle.qpu_asm.specs.Meanings.{first_told, other_b_part}
+use Rattle.qpu_asm.specs.reader.Meanings.{first_told, other_b_part}
 use Rattle.qpu_asm.proofs.meaning.other_b_in.Given as goal
 
 abbrev pub invariant-loop-part : goal.invariant-loop-part

@@ -1,5 +1,5 @@
 use Rattle.std.proofs.Common.{◌≡◌, drop}
-use Rattle.qpu_asm.specs.Meanings.{first_told, row_part}
+use Rattle.qpu_asm.specs.reader.Meanings.{first_told, row_part}
 use Rattle.qpu_asm.proofs.meaning.row_in.Given as goal
 
 abbrev pub invariant-loop-part : goal.invariant-loop-part

@@ -1,5 +1,5 @@
 use Rattle.std.proofs.Common.{◌≡◌, drop}
-use Rattle.qpu_asm.specs.Meanings.{signal_in}
+use Rattle.qpu_asm.specs.reader.Meanings.{signal_in}
 use Rattle.qpu_asm.proofs.meaning.signal_in.Given as goal
 
 abbrev pub invariant-loop-part : goal.invariant-loop-part

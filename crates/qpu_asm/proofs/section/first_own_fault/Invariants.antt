@@ -1,5 +1,5 @@
 use Rattle.std.proofs.Common.{◌≡◌, drop}
-use Rattle.qpu_asm.specs.Sections.{own_fault, first_of}
+use Rattle.qpu_asm.specs.reader.Sections.{own_fault, first_of}
 use Rattle.qpu_asm.proofs.section.first_own_fault.Given as goal
 
 abbrev pub invariant-loop-section : goal.invariant-loop-section

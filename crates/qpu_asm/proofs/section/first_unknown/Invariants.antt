@@ -1,5 +1,5 @@
 use Rattle.std.proofs.Common.{◌≡◌, drop}
-use Rattle.qpu_asm.specs.Sections.{unknown_in, first_of}
+use Rattle.qpu_asm.specs.reader.Sections.{unknown_in, first_of}
 use Rattle.qpu_asm.proofs.section.first_unknown.Given as goal
 
 abbrev pub invariant-loop-section : goal.invariant-loop-section

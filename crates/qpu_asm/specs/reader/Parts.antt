@@ -12,8 +12,8 @@ use Rattle.qpu_asm.specs.declared.part.Suffixes.{Suffixes}
 use Rattle.qpu_asm.specs.declared.part.Part.{Part}
 use Rattle.qpu_asm.specs.declared.part.Part.TheVariants as part
 use Rattle.qpu_asm.specs.Roles.{takes_one}
-use Rattle.qpu_asm.specs.Reading.{Read, go_on, ended}
-use Rattle.qpu_asm.specs.Pieces.{suffix_at, target_core, value_core, jump_core, target_at, operand_at, comma_at}
+use Rattle.qpu_asm.specs.reader.Reading.{Read, go_on, ended}
+use Rattle.qpu_asm.specs.reader.Pieces.{suffix_at, target_core, value_core, jump_core, target_at, operand_at, comma_at}
 
 -- at most two suffixes
 unfoldable pub suffixes_at : List Placed → Read Suffixes

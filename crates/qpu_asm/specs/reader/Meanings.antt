@@ -1,6 +1,6 @@
 -- The instruction that a line's parts are, where no fault is found in them. What isn't a place, operand or
 -- number then doesn't matter; it stands for `-`, r0 or 0. This project's own.
-use Rattle.std.specs.Prelude.{ℕ, ◌+◌, ◌-◌, ◌*◌, ◌%◌, ◌^◌, ◌==◌, ◌||◌, Bool, true, false, List, [], ◌∷◌, Option, Some, None, is_some, unwrap_or, if◌then◌else◌}
+use Rattle.std.specs.Prelude.{ℕ, ◌+◌, ◌%◌, ◌||◌, Bool, true, false, List, [], ◌∷◌, Option, Some, None, is_some, unwrap_or, if◌then◌else◌}
 use Rattle.std.specs.Option.{option_or}
 use Rattle.qpu_word.specs.declared.name.Place.{Place}
 use Rattle.qpu_word.specs.declared.name.Place.TheVariants as place
@@ -20,7 +20,6 @@ use Rattle.qpu_line.specs.declared.instruction.Instruction.TheVariants as instru
 use Rattle.qpu_line.specs.declared.name.Name.{Name}
 use Rattle.qpu_line.specs.declared.name.Name.TheVariants as name
 use Rattle.qpu_line.specs.declared.name.Register.TheVariants as register
-use Rattle.qpu_line.specs.Targets.{address_of}
 use Rattle.qpu_asm.specs.declared.piece.Core.{Core}
 use Rattle.qpu_asm.specs.declared.piece.Core.TheVariants as core
 use Rattle.qpu_asm.specs.declared.piece.Suffix.{Suffix}
@@ -32,7 +31,8 @@ use Rattle.qpu_asm.specs.declared.part.BranchPart.{BranchPart}
 use Rattle.qpu_asm.specs.declared.part.Part.{Part}
 use Rattle.qpu_asm.specs.declared.part.Part.TheVariants as part
 use Rattle.qpu_asm.specs.Roles.{op_in_add, op_in_mul, pack_of}
-use Rattle.qpu_asm.specs.Marks.{code_of, target_place, source_in, unpack_name, is_set_flags, is_r5}
+use Rattle.qpu_asm.specs.SpelledPieces.{is_nowhere, way}
+use Rattle.qpu_asm.specs.reader.Marks.{code_of, target_place, source_in, unpack_name, is_set_flags, is_r5}
 
 -- suffixes
 
@@ -79,9 +79,6 @@ nowhere_place = place.Both NOWHERE
 
 abbrev pub place_of : Core → Place
 place_of c = unwrap_or (target_place c) nowhere_place
-
-abbrev pub is_nowhere : Place → Bool
-is_nowhere p = address_of p == NOWHERE
 
 abbrev pub number_of : Core → ℕ
 number_of (core.Number n) = n
@@ -212,15 +209,10 @@ load_of_part l later = record {
 
 -- branches
 
--- the address behind the slots of the branch at a place, in bytes
-abbrev pub behind_slots : ℕ → ℕ
-behind_slots at = 8 * (at + 4)
-
 -- the immediate of a branch at a place
 abbrev pub distance : Bool → ℕ → Core → ℕ
 distance relative at (core.Number n) = n
-distance relative at (core.Label (Some word)) =
-    if relative then (2 ^ 36 + 8 * word - behind_slots at) % 2 ^ 32 else 8 * word % 2 ^ 32
+distance relative at (core.Label (Some word)) = way relative at word
 distance relative at _ = 0
 
 abbrev pub target_row : Core → Option ℕ

@@ -9,8 +9,9 @@ use Rattle.qpu_asm.specs.declared.piece.Core.{Core}
 use Rattle.qpu_asm.specs.declared.piece.Core.TheVariants as core
 use Rattle.qpu_asm.specs.declared.piece.Suffix.{Suffix}
 use Rattle.qpu_asm.specs.declared.piece.Piece.{Piece}
-use Rattle.qpu_asm.specs.Reading.{Read, go_on}
-use Rattle.qpu_asm.specs.Expressions.{expression_length}
+use Rattle.qpu_asm.specs.Spells.{is_colon}
+use Rattle.qpu_asm.specs.reader.Reading.{Read, go_on}
+use Rattle.qpu_asm.specs.reader.Expressions.{expression_length}
 
 -- signs
 
@@ -25,10 +26,6 @@ is_dot _ = false
 abbrev pub is_minus : Symbol → Bool
 is_minus symbol.Minus = true
 is_minus _ = false
-
-abbrev pub is_colon : Symbol → Bool
-is_colon symbol.Colon = true
-is_colon _ = false
 
 -- names, of the language or not
 abbrev pub named : Symbol → Option (Option Name)

@@ -7,10 +7,10 @@ use Rattle.qpu_line.specs.declared.symbol.Symbol.TheVariants as symbol
 use Rattle.qpu_asm.specs.declared.placed.Placed.{Placed}
 use Rattle.qpu_asm.specs.declared.part.Part.{Part}
 use Rattle.qpu_asm.specs.Roles.{is_mnemonic}
-use Rattle.qpu_asm.specs.Reading.{go_on}
-use Rattle.qpu_asm.specs.Parts.{part_by}
-use Rattle.qpu_asm.specs.Orders.{due}
-use Rattle.qpu_asm.specs.SectionTokens.{SectionTokens}
+use Rattle.qpu_asm.specs.reader.Reading.{go_on}
+use Rattle.qpu_asm.specs.reader.Parts.{part_by}
+use Rattle.qpu_asm.specs.reader.Orders.{due}
+use Rattle.qpu_asm.specs.reader.SectionTokens.{SectionTokens}
 
 -- sections
 
