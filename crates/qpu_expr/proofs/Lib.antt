@@ -20,3 +20,12 @@ pub mod ScanLemmas
 pub mod HeadingLemmas
 pub mod WalkLemmas
 pub mod WalkedLemmas
+pub mod ClearLemmas
+pub mod SpelledLemmas
+pub mod ArgumentLemmas
+pub mod RuleLineLemmas
+pub mod RuleDoesLemmas
+pub mod ReachLemmas
+pub mod RuledLemmas
+pub mod RuleRunLemmas
+pub mod RulesLaw

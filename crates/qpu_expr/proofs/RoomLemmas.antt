@@ -17,11 +17,11 @@ use Rattle.qpu_expr.specs.StageParts.{Stage}
 use Rattle.qpu_expr.specs.Stage.{line_place, too_long, tokens_counted, labelled}
 use Rattle.qpu_expr.specs.Room.{HasTokenRoom}
 
-or_none : (a b : Option AsmFault) → option_or a b ≡ None → (a ≡ None) × (b ≡ None)
+pub or_none : (a b : Option AsmFault) → option_or a b ≡ None → (a ≡ None) × (b ≡ None)
 or_none None b e = (refl, e)
 or_none (Some fault) b e = cc
 
-map_none : (kind : AsmKind) (place : Option Place) → fault_in kind place ≡ None → place ≡ None
+pub map_none : (kind : AsmKind) (place : Option Place) → fault_in kind place ≡ None → place ≡ None
 map_none kind None e = refl
 map_none kind (Some place) e = cc
 

@@ -27,3 +27,5 @@ pub mod Expansion
 pub mod Nesting
 pub mod Answer
 pub mod Ended
+pub mod Spelled
+pub mod Rules

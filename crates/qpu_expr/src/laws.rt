@@ -1,4 +1,5 @@
 ghost use Rattle.qpu_expr.specs.Trees.{ReadsTrees, ReadsOnlyTrees};
+ghost use Rattle.qpu_expr.specs.Rules.{ExpandsByRules};
 
 /// A law: what a tree of the grammar of expressions writes is read as one expression, with the worth of
 /// the tree.
@@ -11,4 +12,10 @@ pub fn reads_trees()
 #[tactic(auto, using(crate::proofs::OnlyTreeLaw::only_trees))]
 pub fn reads_only_trees()
     ensures { ReadsOnlyTrees }
+{}
+
+/// A law: a text is expanded exactly where the language's rules leave something of its lines, and then
+/// to the lines and labels that they leave.
+pub fn expands_by_rules()
+    ensures { ExpandsByRules }
 {}

@@ -43,7 +43,7 @@ mod walk;
 mod whole;
 
 pub use expanded::{Expanded, LabelAt, PlainLine};
-pub use laws::{reads_only_trees, reads_trees};
+pub use laws::{expands_by_rules, reads_only_trees, reads_trees};
 pub use limits::MOST_WORDS;
 pub use table::Table;
 pub use whole::expand;
