@@ -6,7 +6,6 @@
 
 mod control;
 mod flagging;
-mod outs;
 mod port;
 mod processor;
 mod reading;

@@ -11,21 +11,10 @@ use crate::processor::Processor;
 use crate::reading::repeated;
 use qpu_pack::rotate;
 use qpu_word::code::{BRANCH_SLOTS, INSTRUCTION_BYTES, KIND_LOAD, KIND_LOAD_SIGNED};
-use qpu_word::{Fields, Flags, Ins, LANES, Lanes};
+use qpu_word::{Fields, Ins, LANES, Lanes, Sent};
 
 /// What a negative number of two bits adds over 32 bits.
 const SIGN_OVER_TWO_BITS: u32 = 0xffff_fffc;
-
-/// What a word sends, and the flags after it.
-#[derive(Clone, Copy, Debug)]
-pub struct Sent {
-    /// From the add unit.
-    pub add: Lanes,
-    /// From the mul unit, after rotation.
-    pub mul: Lanes,
-    /// The flags after the word.
-    pub flags: Flags,
-}
 
 /// Tells that a value has sixteen lanes.
 pub fn sixteen(values: &Lanes)

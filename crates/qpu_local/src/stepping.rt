@@ -13,13 +13,11 @@ ghost use Rattle.qpu_local.specs.Views.{coming_place};
 ghost use Rattle.qpu_local.specs.Quiet.{StaysIn, IsQuiet};
 
 use crate::control::NextControl;
-use crate::outs::outs;
 use crate::processor::Processor;
-use crate::sending::Sent;
 use crate::storing::cond_of;
 use crate::whole::is_whole;
 use qpu_word::code::{NOWHERE, WRITE_HOST_INT};
-use qpu_word::{Book, FaultKind, Fields, Flags, Halt, Ins, LANES, Lanes, Program, Word};
+use qpu_word::{Book, FaultKind, Fields, Flags, Halt, Ins, LANES, Lanes, Program, Sent, Word};
 
 /// What is read where nothing shared is.
 #[tactic(auto, unfolding(qpu_word::specs::Lanes::lanes))]
@@ -214,7 +212,7 @@ impl Processor {
     {
         let ins = nothing_read();
         let sent = self.sent(f, &ins);
-        let out = outs(f, &sent);
+        let out = sent.outs(f);
         match self.book_now().with_setups(&out) {
             Ok(book) => {
                 self.finish(f, &ins, &sent, book.with_uniform_to(out.uniform_to));

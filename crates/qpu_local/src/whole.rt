@@ -5,10 +5,10 @@ ghost use Rattle.qpu_word.specs.Instruction.{add_sent, mul_sent, registers_after
 ghost use Rattle.qpu_local.specs.Whole.{goes_whole, is_whole};
 
 use crate::processor::Processor;
-use crate::sending::{Sent, sixteen};
+use crate::sending::sixteen;
 use crate::storing::{WHOLE, cond_of, pack_mode_of};
 use qpu_word::code::{COND_ALWAYS, WRITE_R3};
-use qpu_word::{Fields, Ins};
+use qpu_word::{Fields, Ins, Sent};
 
 /// Whether a unit's write, where there is one, goes to a row or to r0 to r3, in all lanes and
 /// unpacked.

@@ -1,5 +1,5 @@
 -- What holds of the word at the place of a processor that stands on a path.
-use Rattle.std.proofs.Common.{◌≡◌, ◌<◌, ℕ, Bool, true, false, not, List, length, refl, arith}
+use Rattle.std.proofs.Common.{◌≡◌, ◌<◌, ℕ, Bool, true, false, not, List, length, refl, ap, ◌∙◌, arith}
 use Rattle.std.specs.Prelude.{◌==◌, ◌&&◌, ◌||◌, slice_index}
 use Rattle.std.proofs.lemmas.Bool.Decides.{nat_tests}
 use Rattle.qpu_word.specs.declared.word.Fields.{Fields}
@@ -11,7 +11,8 @@ use Rattle.qpu_word.proofs.ProfileLemmas.{every_row}
 use Rattle.qpu_tmu.specs.Looks.{LookupsState}
 use Rattle.qpu_shared.specs.declared.pending.Pending.{Pending}
 use Rattle.qpu_shared.specs.Exec.{HasRoom}
-use Rattle.qpu_flow.specs.Code.{fields_at}
+use Rattle.qpu_flow.specs.declared.decoded.Decoded.{Decoded}
+use Rattle.qpu_flow.specs.Code.{decoded_of, fields_at}
 use Rattle.qpu_hazard.specs.Paths.{IsClean}
 use Rattle.qpu_hazard.specs.Holds.{WordHolds}
 use Rattle.qpu_hazard.proofs.HoldLemmas.{word_holds}
@@ -25,6 +26,13 @@ holds_on_path code p looks clean on = word_holds code on.path p.place clean on.i
 -- it is a word of the program
 pub place_in : (code : List ℕ) (p : ProcessorState) (looks : LookupsState) → IsClean code → IsOnPath code p looks → p.place < length code
 place_in code p looks clean on = (holds_on_path code p looks clean on).there
+
+-- its decoded fields are the word's, and so is the test of it
+pub decoded_fields : (code : List ℕ) (place at : ℕ) (d : Decoded) → at ≡ place → d ≡ decoded_of (slice_index code at) → d.fields ≡ fields_of (slice_index code place)
+decoded_fields code place at d same is = ap (λ (x : Decoded). x.fields) is ∙ ap (λ k. fields_of (slice_index code k)) same
+
+pub decoded_local : (code : List ℕ) (place at : ℕ) (d : Decoded) → at ≡ place → d ≡ decoded_of (slice_index code at) → d.local ≡ is_local (fields_of (slice_index code place))
+decoded_local code place at d same is = ap (λ (x : Decoded). x.local) is ∙ ap (λ k. is_local (fields_of (slice_index code k))) same
 
 -- and a look-up that it issues finds room
 pub room_on_path : (code : List ℕ) (p : ProcessorState) (pending : Pending) → IsClean code → IsOnPath code p pending.looks

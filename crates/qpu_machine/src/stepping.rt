@@ -14,7 +14,7 @@ ghost use Rattle.qpu_machine.specs.Took.{TookWord};
 use qpu_hazard::{Checked, Programs};
 use qpu_local::{Halt, Processor};
 use qpu_shared::{Did, Shared};
-use qpu_word::{Fields, Program};
+use qpu_word::Fields;
 
 /// Whether a processor is running: it goes on, and has executed less than a limit.
 pub(crate) fn is_running(processor: &Processor, limit: u32) -> bool
@@ -41,25 +41,6 @@ pub(crate) fn do_local(p: &mut Processor, program: &Checked, f: &Fields) -> Did
 }
 
 /// Does the word at the place of processor q, below 12, which goes on, has executed fewer than
-/// 1,000,000 instructions, and stands on a path of its program. The word is a shared one.
-fn do_shared(p: &mut Processor, program: &Checked, shared: &mut Shared, q: u32) -> Did
-    requires q { q < 12 }
-    requires pending { q < length shared.old.pending }
-    requires number { p.old.q ≡ q }
-    requires going { p.old.halt ≡ Going }
-    requires executed { p.old.executed < 1000000 }
-    requires on_path { IsOnPath program.now p.old (pending_of shared.old q).looks }
-    requires shared { is_local (fields_of (slice_index program.now p.old.place)) ≡ false }
-    ensures { Does result (outcome_under (first_cause (fields_of (slice_index program.now p.old.place)) q shared.old) (instruction_result (is_link_point program.now) (slice_index program.now p.old.place) p.old shared.old)) p.old shared.old p.new shared.new }
-{
-    let _words = program.words();
-    let Some(word) = program.word(p.place()) else {
-        unreachable!()
-    };
-    shared.exec(q, p, word)
-}
-
-/// Does the word at the place of processor q, below 12, which goes on, has executed fewer than
 /// 1,000,000 instructions, and stands on a path of its program.
 fn do_word(p: &mut Processor, program: &Checked, shared: &mut Shared, q: u32) -> Did
     requires q { q < 12 }
@@ -75,7 +56,7 @@ fn do_word(p: &mut Processor, program: &Checked, shared: &mut Shared, q: u32) ->
     if word.local {
         do_local(p, program, &word.fields)
     } else {
-        do_shared(p, program, shared, q)
+        shared.exec_fields(q, p, &word.fields)
     }
 }
 

@@ -12,7 +12,7 @@ use crate::machine::Machine;
 use crate::stepping::{is_running, program_at, take_word};
 use qpu_local::Processor;
 use qpu_shared::Cause;
-use qpu_word::{Program, code};
+use qpu_word::code;
 
 impl Machine {
     /// Processor q, where it is running: it goes on, and has executed less than the limit.
@@ -98,10 +98,8 @@ impl Machine {
     {
         let program = program_at(&self.programs, self.program_of[q as usize]);
         let _words = program.words();
-        let Some(word) = program.word(processor.place()) else {
-            unreachable!()
-        };
-        self.shared.awaits(q, word)
+        let word = program.decoded(processor.place());
+        self.shared.first_cause(&word.fields, q)
     }
 
     /// Why processor q awaits at its next word: the first cause that holds. None exactly where it

@@ -1,5 +1,5 @@
 -- What a shared instruction comes to, put together from its parts.
-use Rattle.std.proofs.Common.{◌≡◌, ◌≢◌, ◌<◌, ℕ, Bool, true, false, List, length, Option, Some, None, Result, Ok, Err, IsSome, refl, sym, ap, ◌∙◌, arith, if◌then◌else◌}
+use Rattle.std.proofs.Common.{◌≡◌, ◌≢◌, ◌<◌, ℕ, Bool, true, false, List, length, Option, Some, None, Result, Ok, Err, IsSome, refl, sym, subst, ap, ◌∙◌, arith, if◌then◌else◌}
 use Rattle.std.specs.Prelude.{◌==◌}
 use Rattle.qpu_word.specs.declared.word.Fields.{Fields}
 use Rattle.qpu_word.specs.declared.setup.Book.{Book}
@@ -9,7 +9,7 @@ use Rattle.qpu_word.specs.declared.fault.FaultKind.{FaultKind}
 use Rattle.qpu_word.specs.declared.code.TheConstants.{NOWHERE, WRITE_TMU1_S, LOOK_UPS}
 use Rattle.qpu_word.specs.Words.{fields_of, is_branch}
 use Rattle.qpu_word.specs.Processor.{ProcessorState}
-use Rattle.qpu_word.specs.Instruction.{outs_from, outs_of, look_address, sent_to, as_lanes, then_after, branch_fails, done}
+use Rattle.qpu_word.specs.Instruction.{add_sent, mul_sent, outs_from, outs_of, look_address, sent_to, as_lanes, then_after, branch_fails, done}
 use Rattle.qpu_word.proofs.ProfileLemmas.{every_row}
 use Rattle.qpu_shared.specs.declared.cause.Cause.TheVariants.{LoadWait}
 use Rattle.qpu_shared.specs.declared.pending.Pending.{Pending}
@@ -101,31 +101,42 @@ pub result_fault : (is_link : ℕ → Bool) (word : ℕ) (p : ProcessorState) (h
     → instruction_result is_link word p h ≡ Err kind
 result_fault is_link word p h kind straight due = rw (result_due is_link word p h straight, due) refl
 
+-- what goes out of what a word sends
+pub outs_sent : (f : Fields) (p : ProcessorState) (ins : Ins) (add mul : List ℕ) (outs : Outs) → outs ≡ outs_from f add mul → add ≡ add_sent f p ins → mul ≡ mul_sent f p ins
+    → outs ≡ outs_of f p ins
+outs_sent f p ins add mul outs is add_is mul_is =
+    is ∙ ap (λ (xs : List ℕ). outs_from f xs mul) add_is ∙ ap (outs_from f (add_sent f p ins)) mul_is
+
 -- the whole instruction, from what the calls of its parts gave
 pub exec_done : (is_link : ℕ → Bool) (word q : ℕ) (p : ProcessorState) (h : SharedState) (f : Fields) (before : Book) (ins : Ins) (outs : Outs)
     (starts : Begun) (after : ProcessorState) (left : SharedState)
-    → f ≡ fields_of word → is_branch (fields_of word) ≡ false → first_cause (fields_of word) q h ≡ None
-    → before ≡ p.book → ins ≡ ins_of f p h → outs ≡ outs_of (fields_of word) p ins → Ok starts ≡ due_of f outs h.memory before
-    → after ≡ done (fields_of word) p ins starts.book → left ≡ shared_after f p outs starts h
+    → f ≡ fields_of word → is_branch f ≡ false → first_cause f q h ≡ None
+    → before ≡ p.book → ins ≡ ins_of f p h → outs ≡ outs_of f p ins → Ok starts ≡ due_of f outs h.memory before
+    → after ≡ done f p ins starts.book → left ≡ shared_after f p outs starts h
     → outcome_under (first_cause (fields_of word) q h) (instruction_result is_link word p h) ≡ Done after left
 exec_done is_link word q p h f before ins outs starts after left f_is straight none before_is ins_is outs_is due_is after_is left_is =
+    let straight_at : is_branch (fields_of word) ≡ false = subst (λ (g : Fields). is_branch g ≡ false) f_is straight in
+    let none_at : first_cause (fields_of word) q h ≡ None = subst (λ (g : Fields). first_cause g q h ≡ None) f_is none in
     let ins_at : ins ≡ ins_of (fields_of word) p h = ins_is ∙ ap (λ (g : Fields). ins_of g p h) f_is in
-    let outs_at : outs ≡ outs_of (fields_of word) p (ins_of (fields_of word) p h) = outs_is ∙ ap (λ (i : Ins). outs_of (fields_of word) p i) ins_at in
+    let outs_at : outs ≡ outs_of (fields_of word) p (ins_of (fields_of word) p h) = outs_is ∙ ap (λ (g : Fields). outs_of g p ins) f_is ∙ ap (λ (i : Ins). outs_of (fields_of word) p i) ins_at in
     let due_at : due_of (fields_of word) (outs_of (fields_of word) p (ins_of (fields_of word) p h)) h.memory p.book ≡ Ok starts =
     sym (due_same f (fields_of word) outs (outs_of (fields_of word) p (ins_of (fields_of word) p h)) before p.book h.memory (Ok starts) f_is outs_at before_is due_is) in
-    let after_at : after ≡ done (fields_of word) p (ins_of (fields_of word) p h) starts.book = after_is ∙ ap (λ (i : Ins). done (fields_of word) p i starts.book) ins_at in
+    let after_at : after ≡ done (fields_of word) p (ins_of (fields_of word) p h) starts.book =
+    after_is ∙ ap (λ (g : Fields). done g p ins starts.book) f_is ∙ ap (λ (i : Ins). done (fields_of word) p i starts.book) ins_at in
     let left_at : left ≡ shared_after (fields_of word) p (outs_of (fields_of word) p (ins_of (fields_of word) p h)) starts h =
     left_is ∙ ap (λ (g : Fields). shared_after g p outs starts h) f_is ∙ ap (λ (o : Outs). shared_after (fields_of word) p o starts h) outs_at in
-    rw (none, result_done is_link word p h starts straight due_at, after_at, left_at) refl
+    rw (none_at, result_done is_link word p h starts straight_at due_at, after_at, left_at) refl
 
 -- its fault
 pub exec_fault : (is_link : ℕ → Bool) (word q : ℕ) (p : ProcessorState) (h : SharedState) (f : Fields) (before : Book) (ins : Ins) (outs : Outs) (kind : FaultKind)
-    → f ≡ fields_of word → is_branch (fields_of word) ≡ false → first_cause (fields_of word) q h ≡ None
-    → before ≡ p.book → ins ≡ ins_of f p h → outs ≡ outs_of (fields_of word) p ins → Err kind ≡ due_of f outs h.memory before
+    → f ≡ fields_of word → is_branch f ≡ false → first_cause f q h ≡ None
+    → before ≡ p.book → ins ≡ ins_of f p h → outs ≡ outs_of f p ins → Err kind ≡ due_of f outs h.memory before
     → outcome_under (first_cause (fields_of word) q h) (instruction_result is_link word p h) ≡ Faults kind
 exec_fault is_link word q p h f before ins outs kind f_is straight none before_is ins_is outs_is due_is =
+    let straight_at : is_branch (fields_of word) ≡ false = subst (λ (g : Fields). is_branch g ≡ false) f_is straight in
+    let none_at : first_cause (fields_of word) q h ≡ None = subst (λ (g : Fields). first_cause g q h ≡ None) f_is none in
     let ins_at : ins ≡ ins_of (fields_of word) p h = ins_is ∙ ap (λ (g : Fields). ins_of g p h) f_is in
-    let outs_at : outs ≡ outs_of (fields_of word) p (ins_of (fields_of word) p h) = outs_is ∙ ap (λ (i : Ins). outs_of (fields_of word) p i) ins_at in
+    let outs_at : outs ≡ outs_of (fields_of word) p (ins_of (fields_of word) p h) = outs_is ∙ ap (λ (g : Fields). outs_of g p ins) f_is ∙ ap (λ (i : Ins). outs_of (fields_of word) p i) ins_at in
     let due_at : due_of (fields_of word) (outs_of (fields_of word) p (ins_of (fields_of word) p h)) h.memory p.book ≡ Err kind =
     sym (due_same f (fields_of word) outs (outs_of (fields_of word) p (ins_of (fields_of word) p h)) before p.book h.memory (Err kind) f_is outs_at before_is due_is) in
-    rw (none, result_fault is_link word p h kind straight due_at) refl
+    rw (none_at, result_fault is_link word p h kind straight_at due_at) refl

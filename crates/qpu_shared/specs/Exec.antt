@@ -1,14 +1,19 @@
 -- What a shared word finds, and what a call that does it answers. This project's own.
-use Rattle.std.specs.Prelude.{◌≡◌, ◌≢◌, ◌<◌, Bool, true, false, length, Option, Some, None}
+use Rattle.std.specs.Prelude.{◌≡◌, ◌≢◌, ◌<◌, ℕ, Bool, true, false, length, Option, Some, None}
 use Rattle.qpu_word.specs.declared.word.Fields.{Fields}
 use Rattle.qpu_word.specs.declared.code.TheConstants.{NOWHERE, LOOK_UPS}
 use Rattle.qpu_word.specs.Processor.{ProcessorState}
+use Rattle.qpu_word.specs.Words.{fields_of, IsInProfile}
 use Rattle.qpu_word.specs.Instruction.{halted, look_address, look_unit_of}
 use Rattle.qpu_shared.specs.declared.did.Did.{Did}
 use Rattle.qpu_shared.specs.declared.did.Did.TheVariants.{Stepped, Awaits as ItAwaits, Faulted as ItFaulted}
 use Rattle.qpu_shared.specs.declared.pending.Pending.{Pending}
 use Rattle.qpu_shared.specs.SharedState.{SharedState}
 use Rattle.qpu_shared.specs.Instruction.{Outcome, Awaits, Faults, Done, looks_of}
+
+-- the fields of some word of the profile
+abbrev pub AreOfProfile : Fields → Type 0
+AreOfProfile f = (word : ℕ) × (f ≡ fields_of word) × IsInProfile word
 
 -- a word that issues a look-up finds room for it
 abbrev pub HasRoom : Fields → Pending → Type 0

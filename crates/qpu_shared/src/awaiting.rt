@@ -55,9 +55,10 @@ impl Shared {
         f.is_semaphore() && is_down(f) && self.sync.count(f.number) == 0
     }
 
-    /// The first cause that holds, in the order in which they are tried.
+    /// Why processor q would await at a word with these fields: the first cause that holds, in the order
+    /// in which they are tried. None where the word has a step.
     #[tactic(auto, unfolding(crate::specs::Instruction::first_cause, crate::specs::Instruction::awaits))]
-    pub(crate) fn first_cause(&self, f: &Fields, q: u32) -> Option<Cause>
+    pub fn first_cause(&self, f: &Fields, q: u32) -> Option<Cause>
         requires { f.now.number < 16 }
         ensures { result ≡ first_cause f.now q self.now }
     {

@@ -5,7 +5,7 @@ ghost use Rattle.qpu_word.specs.Books.{IsSoundBook};
 ghost use Rattle.qpu_word.specs.declared.state.Halt.TheVariants.{Going};
 ghost use Rattle.qpu_word.specs.Instruction.{then_after};
 ghost use Rattle.qpu_shared.specs.Instruction.{after_reads, after_writes, first_cause, instruction_result, outcome_under, pending_of};
-ghost use Rattle.qpu_shared.specs.Exec.{Does, HasRoom};
+ghost use Rattle.qpu_shared.specs.Exec.{AreOfProfile, Does, HasRoom};
 ghost use Rattle.qpu_shared.specs.Views.{IsFitting};
 
 use crate::did::Did;
@@ -29,31 +29,49 @@ impl Shared {
     }
 
     /// Does an instruction that awaits nothing, or faults.
-    fn exec_free<P: Port>(&mut self, q: u32, port: &mut P, word: Word) -> Did
+    fn exec_free<P: Port>(&mut self, q: u32, port: &mut P, f: &Fields) -> Did
         requires q { q < 12 }
         requires number { (P.state port.old).q ≡ q }
         requires going { (P.state port.old).halt ≡ Going }
         requires executed { (P.state port.old).executed < 1000000 }
-        requires profile { IsInProfile word.0 }
-        requires straight { is_branch (fields_of word.0) ≡ false }
-        requires room { HasRoom (fields_of word.0) (pending_of self.old q) }
-        requires free { first_cause (fields_of word.0) q self.old ≡ None }
-        ensures { (is_link : ℕ → Bool) → Does result (outcome_under (first_cause (fields_of word.0) q self.old) (instruction_result is_link word.0 (P.state port.old) self.old)) (P.state port.old) self.old (P.state port.new) self.new }
+        requires profile { AreOfProfile f.now }
+        requires straight { is_branch f.now ≡ false }
+        requires room { HasRoom f.now (pending_of self.old q) }
+        requires free { first_cause f.now q self.old ≡ None }
+        ensures { (is_link : ℕ → Bool) (word : ℕ) → f.now ≡ fields_of word → Does result (outcome_under (first_cause (fields_of word) q self.old) (instruction_result is_link word (P.state port.old) self.old)) (P.state port.old) self.old (P.state port.new) self.new }
     {
-        let f = word.fields();
         let before = port.book();
-        let ins = self.ins(&f, q, &before);
-        let outs = port.outs(word, &ins);
-        match self.due(&f, &outs, before) {
+        let ins = self.ins(f, q, &before);
+        let sent = port.sends(f, &ins);
+        let outs = sent.outs(f);
+        match self.due(f, &outs, before) {
             Ok(starts) => {
-                self.commit(&f, q, &before, &outs, &starts);
-                port.accept(word, &ins, &starts.book);
+                self.commit(f, q, &before, &outs, &starts);
+                port.accept_sent(f, &ins, &sent, &starts.book);
                 Did::Stepped
             }
             Err(kind) => {
                 port.fail(kind);
                 Did::Faulted(kind)
             }
+        }
+    }
+
+    /// One whole instruction of processor q, below 12, at a word of the profile that is no branch and
+    /// has these fields: the same as `exec` at the word.
+    pub fn exec_fields<P: Port>(&mut self, q: u32, port: &mut P, f: &Fields) -> Did
+        requires q { q < 12 }
+        requires number { (P.state port.old).q ≡ q }
+        requires going { (P.state port.old).halt ≡ Going }
+        requires executed { (P.state port.old).executed < 1000000 }
+        requires profile { AreOfProfile f.now }
+        requires straight { is_branch f.now ≡ false }
+        requires room { HasRoom f.now (pending_of self.old q) }
+        ensures { (is_link : ℕ → Bool) (word : ℕ) → f.now ≡ fields_of word → Does result (outcome_under (first_cause (fields_of word) q self.old) (instruction_result is_link word (P.state port.old) self.old)) (P.state port.old) self.old (P.state port.new) self.new }
+    {
+        match self.first_cause(f, q) {
+            Some(cause) => Did::Awaits(cause),
+            None => self.exec_free(q, port, f),
         }
     }
 
@@ -72,9 +90,6 @@ impl Shared {
         requires room { HasRoom (fields_of word.0) (pending_of self.old q) }
         ensures { (is_link : ℕ → Bool) → Does result (outcome_under (first_cause (fields_of word.0) q self.old) (instruction_result is_link word.0 (P.state port.old) self.old)) (P.state port.old) self.old (P.state port.new) self.new }
     {
-        match self.awaits(q, word) {
-            Some(cause) => Did::Awaits(cause),
-            None => self.exec_free(q, port, word),
-        }
+        self.exec_fields(q, port, &word.fields())
     }
 }

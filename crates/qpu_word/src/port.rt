@@ -2,13 +2,15 @@
 ghost use Rattle.std.specs.Prelude.{◌≡◌, ◌<◌, false};
 ghost use Rattle.qpu_word.specs.Words.{fields_of, is_branch, IsInProfile};
 ghost use Rattle.qpu_word.specs.Books.{IsSoundBook};
+ghost use Rattle.qpu_word.specs.Fit.{IsFit};
 ghost use Rattle.qpu_word.specs.declared.state.Halt.TheVariants.{Going};
-ghost use Rattle.qpu_word.specs.Instruction.{outs_of, done, halted};
+ghost use Rattle.qpu_word.specs.Instruction.{add_sent, mul_sent, flags_after, outs_of, done, halted};
 
 use crate::fault::FaultKind;
+use crate::sending::Sent;
 use crate::setup::Book;
 use crate::traffic::{Ins, Outs};
-use crate::word::Word;
+use crate::word::{Fields, Word};
 
 /// A processor as the shared parts see it: they lend it what an instruction reads, and take what
 /// it sends out. Its words are in the profile and no branches; it is going, and has executed fewer
@@ -42,6 +44,27 @@ pub trait Port {
         requires straight { is_branch (fields_of word.0) ≡ false }
         requires sound { IsSoundBook book.now }
         ensures { state self.new ≡ done (fields_of word.0) (state self.old) ins.now book.now };
+
+    /// What a word of these fields sends, with what it reads, and the flags after it.
+    fn sends(&self, f: &Fields, ins: &Ins) -> Sent
+        requires fit { IsFit f.now }
+        requires straight { is_branch f.now ≡ false }
+        ensures add { result.add.v ≡ add_sent f.now (state self.now) ins.now }
+        ensures mul { result.mul.v ≡ mul_sent f.now (state self.now) ins.now }
+        ensures flags { result.flags ≡ flags_after f.now (state self.now) ins.now };
+
+    /// Does the whole instruction of a word of these fields, with what it reads, what it sends, and the
+    /// book that it leaves, whose setups are sound.
+    fn accept_sent(&mut self, f: &Fields, ins: &Ins, sent: &Sent, book: &Book)
+        requires going { (state self.old).halt ≡ Going }
+        requires executed { (state self.old).executed < 1000000 }
+        requires fit { IsFit f.now }
+        requires straight { is_branch f.now ≡ false }
+        requires add { sent.now.add.v ≡ add_sent f.now (state self.old) ins.now }
+        requires mul { sent.now.mul.v ≡ mul_sent f.now (state self.old) ins.now }
+        requires flags { sent.now.flags ≡ flags_after f.now (state self.old) ins.now }
+        requires sound { IsSoundBook book.now }
+        ensures { state self.new ≡ done f.now (state self.old) ins.now book.now };
 
     /// Faults at its place: the halt alone changes.
     fn fail(&mut self, kind: FaultKind)

@@ -1,10 +1,12 @@
-use Rattle.std.proofs.Common.{◌≡◌, sym, ap, ◌∙◌}
+use Rattle.std.proofs.Common.{◌≡◌, false, sym, subst, ◌∙◌}
 use Rattle.std.specs.Prelude.{slice_index}
-use Rattle.qpu_word.specs.Words.{fields_of, is_local}
+use Rattle.qpu_word.specs.declared.word.Fields.{Fields}
+use Rattle.qpu_word.specs.Words.{is_branch}
 use Rattle.qpu_word.specs.Instruction.{is_link_point}
+use Rattle.qpu_shared.specs.Exec.{HasRoom}
+use Rattle.qpu_shared.specs.Instruction.{pending_of}
 use Rattle.qpu_shared.proofs.LocalLemmas.{outcome_local}
-use Rattle.qpu_flow.specs.declared.decoded.Decoded.{Decoded}
-use Rattle.qpu_machine.proofs.WordLemmas.{place_in}
+use Rattle.qpu_machine.proofs.WordLemmas.{place_in, room_on_path, shared_straight, decoded_fields, decoded_local}
 use Rattle.qpu_machine.proofs.stepping.do_word.Goals as goal
 
 pub decoded-word-requires : goal.decoded-word-requires
@@ -18,22 +20,42 @@ do_local-requires-clause-profile c =
     c.words-words.ensures.inside c.args.p.now.place (place_in c.args.program.now c.args.p.now _ c.words-words.ensures.clean c.requires.on_path)
 
 pub do_local-requires-clause-fields : goal.do_local-requires-clause-fields
-do_local-requires-clause-fields c =
-    ap (λ (d : Decoded). d.fields) c.decoded-word.ensures ∙ ap (λ at. fields_of (slice_index c.args.program.now at)) c.place.ensures
+do_local-requires-clause-fields c = decoded_fields c.args.program.now c.args.p.now.place c.place.result c.decoded-word.result.now c.place.ensures c.decoded-word.ensures
 
 pub do_local-requires-clause-local : goal.do_local-requires-clause-local
 do_local-requires-clause-local c =
-    ap (λ (d : Decoded). is_local d.fields) c.decoded-word.ensures ∙ sym (ap (λ (d : Decoded). d.local) c.decoded-word.ensures) ∙ c.if-word.true
+    let fields = decoded_fields c.args.program.now c.args.p.now.place c.place.result c.decoded-word.result.now c.place.ensures c.decoded-word.ensures in
+    let local = decoded_local c.args.program.now c.args.p.now.place c.place.result c.decoded-word.result.now c.place.ensures c.decoded-word.ensures in
+    rw fields (sym local ∙ c.if-word.true)
 
-pub do_shared-requires-clause-shared : goal.do_shared-requires-clause-shared
-do_shared-requires-clause-shared c =
-    let is : c.decoded-word.result.now.local ≡ is_local (fields_of (slice_index c.args.program.now c.args.p.now.place)) =
-    ap (λ (d : Decoded). d.local) c.decoded-word.ensures ∙ ap (λ at. is_local (fields_of (slice_index c.args.program.now at))) c.place.ensures in
-    sym is ∙ c.if-word.false
+pub exec_fields-requires-clause-profile : goal.exec_fields-requires-clause-profile
+exec_fields-requires-clause-profile c = (
+  slice_index c.args.program.now c.args.p.now.place,
+  decoded_fields c.args.program.now c.args.p.now.place c.place.result c.decoded-word.result.now c.place.ensures c.decoded-word.ensures,
+  c.words-words.ensures.inside c.args.p.now.place (place_in c.args.program.now c.args.p.now _ c.words-words.ensures.clean c.requires.on_path),
+)
+
+pub exec_fields-requires-clause-straight : goal.exec_fields-requires-clause-straight
+exec_fields-requires-clause-straight c =
+    let fields = decoded_fields c.args.program.now c.args.p.now.place c.place.result c.decoded-word.result.now c.place.ensures c.decoded-word.ensures in
+    let local = decoded_local c.args.program.now c.args.p.now.place c.place.result c.decoded-word.result.now c.place.ensures c.decoded-word.ensures in
+    let low = place_in c.args.program.now c.args.p.now _ c.words-words.ensures.clean c.requires.on_path in
+    subst (λ (f : Fields). is_branch f ≡ false) (sym fields)
+    (shared_straight (slice_index c.args.program.now c.args.p.now.place) (c.words-words.ensures.inside c.args.p.now.place low) (sym local ∙ c.if-word.false))
+
+pub exec_fields-requires-clause-room : goal.exec_fields-requires-clause-room
+exec_fields-requires-clause-room c =
+    let fields = decoded_fields c.args.program.now c.args.p.now.place c.place.result c.decoded-word.result.now c.place.ensures c.decoded-word.ensures in
+    let pending = pending_of c.args.shared.now c.args.q in
+    subst (λ (f : Fields). HasRoom f pending) (sym fields) (room_on_path c.args.program.now c.args.p.now pending c.words-words.ensures.clean c.requires.on_path)
 
 pub returns-then-word : goal.returns-then-word
 returns-then-word c =
-    let is : c.decoded-word.result.now.local ≡ is_local (fields_of (slice_index c.args.program.now c.args.p.now.place)) =
-    ap (λ (d : Decoded). d.local) c.decoded-word.ensures ∙ ap (λ at. is_local (fields_of (slice_index c.args.program.now at))) c.place.ensures in
-    rw (← c.requires.number, outcome_local (is_link_point c.args.program.now) (slice_index c.args.program.now c.args.p.now.place) c.args.p.now c.args.shared.now (sym is ∙ c.if-word.true))
+    let local = decoded_local c.args.program.now c.args.p.now.place c.place.result c.decoded-word.result.now c.place.ensures c.decoded-word.ensures in
+    rw (← c.requires.number, outcome_local (is_link_point c.args.program.now) (slice_index c.args.program.now c.args.p.now.place) c.args.p.now c.args.shared.now (sym local ∙ c.if-word.true))
     (c.do_local.ensures c.args.shared.now)
+
+pub returns-else-word : goal.returns-else-word
+returns-else-word c =
+    let fields = decoded_fields c.args.program.now c.args.p.now.place c.place.result c.decoded-word.result.now c.place.ensures c.decoded-word.ensures in
+    c.exec_fields.ensures (is_link_point c.args.program.now) (slice_index c.args.program.now c.args.p.now.place) fields

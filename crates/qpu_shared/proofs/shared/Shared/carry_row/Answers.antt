@@ -1,4 +1,4 @@
-use Rattle.std.proofs.Common.{length, arith}
+use Rattle.std.proofs.Common.{arith}
 use Rattle.qpu_shared.proofs.MoveLemmas.{carried_none, carried_more, carried_all}
 use Rattle.qpu_shared.proofs.shared.Shared.carry_row.Goals as goal
 
