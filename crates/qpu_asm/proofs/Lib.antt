@@ -60,3 +60,4 @@ pub mod ReadBranches
 pub mod ReadLaw
 pub mod SpellsTrials
 pub mod TextLaw
+pub mod SpellsCanonical

@@ -128,7 +128,7 @@ says_by at o s ss p later told good clear found = absurd (let e : false ≡ true
 
 -- the whole
 
-line_spelled : (at : ℕ) (xs : List Placed) (i : Instruction) → Good xs → LineTold at xs i → HasWord i → IsSpelled at xs i
+pub line_spelled : (at : ℕ) (xs : List Placed) (i : Instruction) → Good xs → LineTold at xs i → HasWord i → IsSpelled at xs i
 line_spelled at xs i good l word =
     let says : SpellsParts at (label_in xs) (texts (l.section ∷ l.sections)) (meaning at l.first l.later) =
     says_by at (label_in xs) l.section l.sections l.first l.later l.told (l.good good) (is_clear (marks_of (l.first ∷ l.later)) l.clean)

@@ -26,7 +26,7 @@ mod roles;
 mod section;
 mod words;
 
-pub use again::canonical_lines_are_read;
+pub use again::{canonical_lines_are_read, canonical_lines_are_spelled};
 pub use assembly::assemble;
 pub use laws::{
     lines_have_words, lines_of_texts_have_words, lines_of_texts_spell_what_they_say,
