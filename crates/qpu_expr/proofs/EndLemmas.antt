@@ -16,18 +16,18 @@ use Rattle.qpu_expr.specs.declared.state.Change.{Change}
 use Rattle.qpu_expr.specs.declared.state.Change.TheVariants as change
 use Rattle.qpu_expr.specs.declared.deed.Deed.{Deed}
 use Rattle.qpu_expr.specs.Symbols.{symbol_of}
-use Rattle.qpu_expr.specs.Settings.{Sets, expression}
+use Rattle.qpu_expr.specs.Settings.{Sets, expression, is_whole}
 use Rattle.qpu_expr.specs.Tables.{found}
 use Rattle.qpu_expr.specs.Operands.{is_name, instruction_work}
 use Rattle.qpu_expr.specs.LineTokens.{LineTokens}
-use Rattle.qpu_expr.specs.Lines.{moved_to, Lining, no_line, ends, lined, lines_of, body_length}
+use Rattle.qpu_expr.specs.Lines.{moved_to, Lining, no_line, ends, lined, lines_of, body_length, left_tokens}
 use Rattle.qpu_expr.specs.MacroTokens.{MacroTokens}
-use Rattle.qpu_expr.specs.Macros.{Macros, is_comma, names_of, arguments_of, line_replaced, body_replaced}
+use Rattle.qpu_expr.specs.Macros.{Macros, is_comma, names_of, arguments_of, line_replaced, body_replaced, called}
 use Rattle.qpu_expr.specs.StageParts.{Stage}
-use Rattle.qpu_expr.specs.Findings.{place_in, left_deed, is_whole}
+use Rattle.qpu_expr.specs.Findings.{place_in, left_deed}
 use Rattle.qpu_expr.specs.Directives.{set_to, set_deed, repeat_deed, defined, macro_deed}
-use Rattle.qpu_expr.specs.Calls.{call_deed, instruction_deed, other_deed, called, text_deed}
-use Rattle.qpu_expr.specs.Deeds.{left_tokens, deed_by}
+use Rattle.qpu_expr.specs.Calls.{call_deed, instruction_deed, other_deed, text_deed}
+use Rattle.qpu_expr.specs.Deeds.{deed_by}
 use Rattle.qpu_expr.specs.Ended.{IsEnded}
 use Rattle.qpu_expr.proofs.KeepLemmas.{Runs}
 

@@ -17,8 +17,7 @@ use Rattle.qpu_expr.specs.declared.form.Form.TheVariants.{Due, There, Broken}
 use Rattle.qpu_expr.specs.declared.form.Outline.{Outline}
 use Rattle.qpu_expr.specs.Operators.{Worth, level, combined, negated, inverted}
 use Rattle.qpu_expr.specs.Expressions.{Reading, reading, taken, collapse, read_due, read_behind, closed, passed, stepped, ended, finished}
-use Rattle.qpu_expr.specs.Settings.{Sets, item_of, is_unknown, expression}
-use Rattle.qpu_expr.specs.Findings.{is_whole}
+use Rattle.qpu_expr.specs.Settings.{Sets, item_of, is_unknown, expression, is_whole}
 use Rattle.qpu_expr.specs.Forms.{due_read, bracket_closed, behind_read, formed, is_form, no_outline, outlined, lacks}
 use Rattle.qpu_expr.proofs.TreeLaw.{goes}
 

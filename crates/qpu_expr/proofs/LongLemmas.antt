@@ -16,20 +16,20 @@ use Rattle.qpu_expr.specs.declared.deed.Act.TheVariants as act
 use Rattle.qpu_expr.specs.declared.told.Told.{Told}
 use Rattle.qpu_expr.specs.declared.setting.Expression.{Expression}
 use Rattle.qpu_token.specs.Tokens.{text_of}
-use Rattle.qpu_expr.specs.Settings.{Sets, expression}
+use Rattle.qpu_expr.specs.Settings.{Sets, expression, is_whole}
 use Rattle.qpu_expr.specs.Tables.{found}
 use Rattle.qpu_expr.specs.Symbols.{place_of}
 use Rattle.qpu_expr.specs.Operands.{is_name}
 use Rattle.qpu_expr.specs.LineTokens.{LineTokens}
 use Rattle.qpu_expr.specs.MacroTokens.{MacroTokens}
-use Rattle.qpu_expr.specs.Macros.{is_comma, names_of, heading_fault, Macros}
-use Rattle.qpu_expr.specs.Lines.{is_colon, label_of, behind_label, head_of, body_length}
+use Rattle.qpu_expr.specs.Macros.{is_comma, names_of, heading_fault, Macros, called}
+use Rattle.qpu_expr.specs.Lines.{is_colon, label_of, behind_label, head_of, body_length, left_tokens}
 use Rattle.qpu_expr.specs.StageParts.{Stage}
 use Rattle.qpu_expr.specs.Stage.{line_place, too_long, leaves, label_twice}
-use Rattle.qpu_expr.specs.Findings.{no_findings, place_in, is_whole}
+use Rattle.qpu_expr.specs.Findings.{no_findings, place_in}
 use Rattle.qpu_expr.specs.Directives.{set_to, set_deed, repeat_deed, names_twice, defined, macro_by, macro_deed}
-use Rattle.qpu_expr.specs.Calls.{called, call_deed, instruction_deed, other_deed, text_deed}
-use Rattle.qpu_expr.specs.Deeds.{left_tokens, deed_by, least_fault, done_by, line_does, closing_deed, closes}
+use Rattle.qpu_expr.specs.Calls.{call_deed, instruction_deed, other_deed, text_deed}
+use Rattle.qpu_expr.specs.Deeds.{deed_by, least_fault, done_by, line_does, closing_deed, closes}
 use Rattle.qpu_expr.specs.Tolds.{label_length, nothing_told, set_to_told, set_told, repeat_told, macro_told, parts_told, call_told, text_told, told_by, told_of}
 use Rattle.qpu_expr.proofs.HeadLemmas.{head_front}
 use Rattle.qpu_expr.proofs.RoomLemmas.{some_room}

@@ -13,18 +13,18 @@ use Rattle.qpu_expr.specs.declared.deed.Act.{Act}
 use Rattle.qpu_expr.specs.declared.deed.Act.TheVariants as act
 use Rattle.qpu_expr.specs.Symbols.{place_of}
 use Rattle.qpu_expr.specs.Tables.{found}
-use Rattle.qpu_expr.specs.Settings.{expression}
+use Rattle.qpu_expr.specs.Settings.{expression, value_in, zero_in}
 use Rattle.qpu_expr.specs.Operands.{instruction_work}
 use Rattle.qpu_expr.specs.LineTokens.{LineTokens}
 use Rattle.qpu_expr.specs.MacroTokens.{MacroTokens}
-use Rattle.qpu_expr.specs.Lines.{head_of, body_length}
-use Rattle.qpu_expr.specs.Macros.{repeated_in, body_replaced}
+use Rattle.qpu_expr.specs.Lines.{head_of, body_length, left_tokens}
+use Rattle.qpu_expr.specs.Macros.{repeated_in, body_replaced, called}
 use Rattle.qpu_expr.specs.StageParts.{Stage}
 use Rattle.qpu_expr.specs.Stage.{leaves, changed}
-use Rattle.qpu_expr.specs.Findings.{place_in, left_deed, value_in, zero_in}
+use Rattle.qpu_expr.specs.Findings.{place_in, left_deed}
 use Rattle.qpu_expr.specs.Directives.{set_deed, repeat_deed, macro_deed}
-use Rattle.qpu_expr.specs.Calls.{call_deed, instruction_deed, other_deed, called}
-use Rattle.qpu_expr.specs.Deeds.{left_tokens, deed_by}
+use Rattle.qpu_expr.specs.Calls.{call_deed, instruction_deed, other_deed}
+use Rattle.qpu_expr.specs.Deeds.{deed_by}
 use Rattle.qpu_expr.specs.Spelled.{IsWorth, is_setting, Setting, Names, Given}
 use Rattle.qpu_expr.specs.Rules.{Known, Works, Leaves, word, no_setting, other, instruction}
 use Rattle.qpu_expr.proofs.SpelledLemmas.{worth_read, names_read}

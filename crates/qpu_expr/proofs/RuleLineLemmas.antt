@@ -20,18 +20,18 @@ use Rattle.qpu_expr.specs.declared.deed.Deed.{Deed}
 use Rattle.qpu_expr.specs.declared.deed.Findings.{Findings}
 use Rattle.qpu_expr.specs.Symbols.{place_of}
 use Rattle.qpu_expr.specs.Tables.{found}
-use Rattle.qpu_expr.specs.Settings.{Sets, expression}
+use Rattle.qpu_expr.specs.Settings.{Sets, expression, is_whole, value_in, zero_in}
 use Rattle.qpu_expr.specs.Operands.{is_name, Worked, instruction_work}
 use Rattle.qpu_expr.specs.LineTokens.{LineTokens}
 use Rattle.qpu_expr.specs.MacroTokens.{MacroTokens}
-use Rattle.qpu_expr.specs.Lines.{head_of, body_length}
-use Rattle.qpu_expr.specs.Macros.{Macros, is_comma, names_of, heading_fault, repeated_in, arguments_of, argument_fault, body_replaced}
+use Rattle.qpu_expr.specs.Lines.{head_of, body_length, left_tokens}
+use Rattle.qpu_expr.specs.Macros.{Macros, is_comma, names_of, heading_fault, repeated_in, arguments_of, argument_fault, body_replaced, called}
 use Rattle.qpu_expr.specs.StageParts.{Stage}
 use Rattle.qpu_expr.specs.Stage.{leaves, changed}
-use Rattle.qpu_expr.specs.Findings.{place_in, place_when, left_deed, is_whole, value_in, zero_in, misshapen, no_findings}
+use Rattle.qpu_expr.specs.Findings.{place_in, place_when, left_deed, misshapen, no_findings}
 use Rattle.qpu_expr.specs.Directives.{set_deed, repeat_by, repeat_deed, names_twice, defined, macro_by, macro_deed}
-use Rattle.qpu_expr.specs.Calls.{call_deed, instruction_deed, other_deed, text_deed, called}
-use Rattle.qpu_expr.specs.Deeds.{left_tokens, deed_by}
+use Rattle.qpu_expr.specs.Calls.{call_deed, instruction_deed, other_deed, text_deed}
+use Rattle.qpu_expr.specs.Deeds.{deed_by}
 use Rattle.qpu_expr.specs.Spelled.{IsWorth, is_setting, Setting, setting, Names, last, more, Given}
 use Rattle.qpu_expr.specs.Rules.{Known, Leaves, word, no_setting, other, instruction}
 use Rattle.qpu_expr.proofs.SpelledLemmas.{IsRead, worth_read, read_worth, heading_spells}

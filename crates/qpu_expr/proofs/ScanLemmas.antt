@@ -22,8 +22,7 @@ use Rattle.qpu_expr.specs.declared.scan.Part.TheVariants.{Start, Suffixes, Dotte
 use Rattle.qpu_expr.specs.declared.scan.Scan.{Scan}
 use Rattle.qpu_expr.specs.Symbols.{symbol_of, place_of}
 use Rattle.qpu_expr.specs.Registers.{is_register}
-use Rattle.qpu_expr.specs.Settings.{Sets, expression}
-use Rattle.qpu_expr.specs.Findings.{is_whole}
+use Rattle.qpu_expr.specs.Settings.{Sets, expression, is_whole}
 use Rattle.qpu_expr.specs.Operands.{is_name, is_dot, separates, suffixes, core, number_of, named, operand_of, Worked, put_operand, put_first, put_piece, standing_behind, Working, nothing_read, worked_on, instruction_work}
 use Rattle.qpu_expr.specs.Forms.{no_outline, outlined}
 use Rattle.qpu_expr.specs.Scans.{no_core, cored, core_lacks, no_held, held, core_in, held_lacks, scanned, part_lacks, part_behind, no_scan, scan_lacks, scan_on}

@@ -5,8 +5,7 @@ use Rattle.qpu_token.specs.declared.token.Token.{Token}
 use Rattle.qpu_expr.specs.declared.form.Outline.{Outline}
 use Rattle.qpu_expr.specs.declared.scan.Scan.{Scan}
 use Rattle.qpu_expr.specs.declared.walk.Walk.TheVariants.{Number, Parts, Names}
-use Rattle.qpu_expr.specs.Settings.{Sets, expression}
-use Rattle.qpu_expr.specs.Findings.{is_whole}
+use Rattle.qpu_expr.specs.Settings.{Sets, expression, is_whole}
 use Rattle.qpu_expr.specs.Operands.{instruction_work}
 use Rattle.qpu_expr.specs.Forms.{no_outline, outlined, is_form}
 use Rattle.qpu_expr.specs.Scans.{no_scan, scan_on}

@@ -2,15 +2,13 @@
 use Rattle.std.specs.Prelude.{ℕ, ◌==◌, Bool, List, [], ◌∷◌, ◌++◌, length, drop, Option, Some, None, if◌then◌else◌}
 use Rattle.std.specs.Option.{option_or}
 use Rattle.qpu_token.specs.declared.token.Token.{Token}
-use Rattle.qpu_token.specs.Tokens.{text_of}
 use Rattle.qpu_expr.specs.declared.state.Change.TheVariants as change
 use Rattle.qpu_expr.specs.declared.deed.Act.TheVariants as act
 use Rattle.qpu_expr.specs.declared.deed.Deed.{Deed}
 use Rattle.qpu_expr.specs.Settings.{Sets}
-use Rattle.qpu_expr.specs.Tables.{found}
-use Rattle.qpu_expr.specs.Operands.{is_name, Worked, instruction_work}
+use Rattle.qpu_expr.specs.Operands.{Worked, instruction_work}
 use Rattle.qpu_expr.specs.MacroTokens.{MacroTokens}
-use Rattle.qpu_expr.specs.Macros.{Macros, arguments_of, argument_fault, body_replaced}
+use Rattle.qpu_expr.specs.Macros.{called, arguments_of, argument_fault, body_replaced}
 use Rattle.qpu_expr.specs.StageParts.{Stage}
 use Rattle.qpu_expr.specs.Findings.{no_findings, place_in, place_when}
 
@@ -49,11 +47,6 @@ judged_deed end left w = record {
 
 unfoldable pub other_deed : List ℕ → Sets → Token → List Token → List Token → Deed
 other_deed text sets end left line = judged_deed end left (instruction_work text sets line)
-
--- the macro that a line calls
-abbrev pub called : List ℕ → Macros → List Token → Option MacroTokens
-called text macros [] = None
-called text macros (first ∷ rest) = if is_name text first then found (text_of text first) macros else None
 
 unfoldable pub text_deed : List ℕ → Stage → Bool → Token → List Token → Deed
 text_deed text s deepest end line = by_macro (called text s.macros line)

@@ -1,5 +1,5 @@
 -- What one line does by itself: its faults, what it changes, and what is run behind it. This project's own.
-use Rattle.std.specs.Prelude.{ℕ, Bool, List, [], ◌∷◌, drop, Option, Some, None, option_map, Result, Ok, Err, if◌then◌else◌}
+use Rattle.std.specs.Prelude.{ℕ, Bool, List, [], ◌∷◌, drop, Option, Some, None, option_map, Result, Ok, Err}
 use Rattle.std.specs.Option.{option_or}
 use Rattle.qpu_token.specs.declared.token.Token.{Token}
 use Rattle.qpu_token.specs.declared.fault.AsmFault.{AsmFault}
@@ -16,18 +16,12 @@ use Rattle.qpu_expr.specs.declared.deed.Findings.{Findings}
 use Rattle.qpu_expr.specs.declared.deed.Deed.{Deed}
 use Rattle.qpu_expr.specs.Symbols.{place_of, fault_at}
 use Rattle.qpu_expr.specs.LineTokens.{LineTokens}
-use Rattle.qpu_expr.specs.Lines.{label_of, behind_label, head_of, is_colon}
+use Rattle.qpu_expr.specs.Lines.{label_of, behind_label, left_tokens, head_of}
 use Rattle.qpu_expr.specs.StageParts.{Stage}
 use Rattle.qpu_expr.specs.Stage.{too_long, tokens_counted, labelled, leaves, changed, label_twice}
 use Rattle.qpu_expr.specs.Findings.{no_findings, left_deed}
 use Rattle.qpu_expr.specs.Directives.{set_deed, repeat_deed, macro_deed, stray_deed}
 use Rattle.qpu_expr.specs.Calls.{other_deed, text_deed}
-
--- a line that is left as it is, behind its label. A second label isn't due: its line is left with the
--- first one, so that the token that isn't due can be told
-abbrev pub left_tokens : List ℕ → List Token → List Token → List Token
-left_tokens text whole [] = []
-left_tokens text whole (first ∷ rest) = if is_colon text first then whole else first ∷ rest
 
 -- what a line does, by what it begins with behind its label
 abbrev pub deed_by : List ℕ → Stage → Bool → Token → List Token → List Token → List LineTokens → Head → Deed

@@ -13,13 +13,13 @@ use Rattle.qpu_expr.specs.declared.deed.Act.TheVariants as act
 use Rattle.qpu_expr.specs.declared.deed.Findings.{Findings}
 use Rattle.qpu_expr.specs.declared.deed.Deed.{Deed}
 use Rattle.qpu_expr.specs.Symbols.{place_of}
-use Rattle.qpu_expr.specs.Settings.{Sets, expression}
+use Rattle.qpu_expr.specs.Settings.{Sets, expression, is_whole, value_in, zero_in}
 use Rattle.qpu_expr.specs.Tables.{found}
 use Rattle.qpu_expr.specs.Operands.{is_name}
 use Rattle.qpu_expr.specs.LineTokens.{LineTokens}
 use Rattle.qpu_expr.specs.Lines.{body_length}
 use Rattle.qpu_expr.specs.Macros.{is_comma, names_of, heading_fault, repeated_in, Macros}
-use Rattle.qpu_expr.specs.Findings.{no_findings, place_in, place_when, left_deed, is_whole, value_in, zero_in, misshapen}
+use Rattle.qpu_expr.specs.Findings.{no_findings, place_in, place_when, left_deed, misshapen}
 
 -- `.set`: a name, a `,` and an expression; any other form is left
 

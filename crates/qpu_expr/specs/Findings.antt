@@ -1,5 +1,5 @@
 -- What lines find, and what they do where they are left. This project's own.
-use Rattle.std.specs.Prelude.{ℕ, Bool, true, false, List, [], ◌∷◌, ◌++◌, Option, Some, None, Ok, Err, if◌then◌else◌}
+use Rattle.std.specs.Prelude.{Bool, List, [], ◌∷◌, ◌++◌, Option, Some, None, if◌then◌else◌}
 use Rattle.qpu_token.specs.declared.token.Token.{Token}
 use Rattle.qpu_expr.specs.declared.place.Place.{Place}
 use Rattle.qpu_expr.specs.declared.expression.Parsed.{Parsed}
@@ -24,25 +24,6 @@ place_when holds place = if holds then Some place else None
 -- a line that is left as it is
 abbrev pub left_deed : Token → List Token → Deed
 left_deed end line = record { findings = no_findings; change = change.Leaves (line ++ end ∷ []); act = act.Nothing }
-
--- what an expression has, where it is whole
-
-abbrev pub is_whole : Parsed → Bool
-is_whole (Whole worth) = true
-is_whole Cut = false
-is_whole (Extra place) = false
-
-abbrev pub value_in : Parsed → ℕ
-value_in (Whole (Ok value)) = value
-value_in (Whole (Err place)) = 0
-value_in Cut = 0
-value_in (Extra place) = 0
-
-abbrev pub zero_in : Parsed → Option Place
-zero_in (Whole (Ok value)) = None
-zero_in (Whole (Err place)) = Some place
-zero_in Cut = None
-zero_in (Extra place) = None
 
 -- where tokens that are to be an expression are none: at their first, which begins one that can't be
 -- completed, or at what stands behind a whole one

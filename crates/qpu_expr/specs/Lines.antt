@@ -68,6 +68,12 @@ label_of text (colon ∷ name ∷ rest) = if is_colon text colon && is_name text
 abbrev pub behind_label : List ℕ → List Token → List Token
 behind_label text tokens = if is_some (label_of text tokens) then drop 2 tokens else tokens
 
+-- a line that is left as it is, behind its label. A second label isn't due: its line is left with the
+-- first one, so that the token that isn't due can be told
+abbrev pub left_tokens : List ℕ → List Token → List Token → List Token
+left_tokens text whole [] = []
+left_tokens text whole (first ∷ rest) = if is_colon text first then whole else first ∷ rest
+
 -- heads
 
 -- a directive by its word

@@ -9,6 +9,7 @@ use Rattle.qpu_expr.specs.declared.symbol.Sign.TheVariants as sign
 use Rattle.qpu_expr.specs.declared.symbol.Symbol.{Symbol}
 use Rattle.qpu_expr.specs.declared.symbol.Symbol.TheVariants as symbol
 use Rattle.qpu_expr.specs.Symbols.{symbol_of, is_named, place_of}
+use Rattle.qpu_expr.specs.Tables.{found}
 use Rattle.qpu_expr.specs.Operands.{is_name}
 use Rattle.qpu_expr.specs.LineTokens.{LineTokens}
 use Rattle.qpu_expr.specs.MacroTokens.{MacroTokens}
@@ -60,6 +61,11 @@ repeated_in text before (p ∷ rest) =
 -- macros by their names
 abbrev pub Macros : Type 0
 Macros = List (List ℕ × MacroTokens)
+
+-- the macro that a line calls
+abbrev pub called : List ℕ → Macros → List Token → Option MacroTokens
+called text macros [] = None
+called text macros (first ∷ rest) = if is_name text first then found (text_of text first) macros else None
 
 -- arguments that signs `,` separate: those before the last sign, the tokens since, and the place of a
 -- sign before which there are none

@@ -12,10 +12,8 @@ use Rattle.qpu_expr.specs.Settings.{Sets}
 use Rattle.qpu_expr.specs.Operands.{instruction_work}
 use Rattle.qpu_expr.specs.LineTokens.{LineTokens}
 use Rattle.qpu_expr.specs.MacroTokens.{MacroTokens}
-use Rattle.qpu_expr.specs.Lines.{lines_of, label_of, behind_label, head_of, body_length}
-use Rattle.qpu_expr.specs.Macros.{Macros, repeated_in, body_replaced}
-use Rattle.qpu_expr.specs.Calls.{called}
-use Rattle.qpu_expr.specs.Deeds.{left_tokens}
+use Rattle.qpu_expr.specs.Lines.{lines_of, label_of, behind_label, head_of, body_length, left_tokens}
+use Rattle.qpu_expr.specs.Macros.{Macros, repeated_in, body_replaced, called}
 use Rattle.qpu_expr.specs.Spelled.{IsWorth, is_setting, Setting, Names, Given}
 use Rattle.qpu_expr.specs.Expansion.{Left, expansion}
 

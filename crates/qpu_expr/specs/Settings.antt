@@ -1,5 +1,5 @@
 -- Names that are set, and expressions over them. This project's own.
-use Rattle.std.specs.Prelude.{ℕ, ◌%◌, ◌^◌, Bool, false, not, List, map, is_some, unwrap_or}
+use Rattle.std.specs.Prelude.{ℕ, ◌%◌, ◌^◌, Bool, false, not, true, List, map, Option, Some, None, Ok, Err, is_some, unwrap_or}
 use Rattle.std.specs.List.{list_any}
 use Rattle.qpu_token.specs.declared.token.Token.{Token}
 use Rattle.qpu_token.specs.Tokens.{text_of}
@@ -9,6 +9,9 @@ use Rattle.qpu_expr.specs.declared.symbol.Symbol.TheVariants as symbol
 use Rattle.qpu_expr.specs.declared.expression.What.{What}
 use Rattle.qpu_expr.specs.declared.expression.What.TheVariants as what
 use Rattle.qpu_expr.specs.declared.expression.Item.{Item}
+use Rattle.qpu_expr.specs.declared.expression.Parsed.{Parsed}
+use Rattle.qpu_expr.specs.declared.expression.Parsed.TheVariants.{Whole, Cut, Extra}
+use Rattle.qpu_expr.specs.declared.place.Place.{Place}
 use Rattle.qpu_expr.specs.declared.setting.Expression.{Expression}
 use Rattle.qpu_expr.specs.Symbols.{symbol_of, place_of}
 use Rattle.qpu_expr.specs.Expressions.{parsed_of}
@@ -45,3 +48,22 @@ expression text sets tokens = record {
   outcome = parsed_of (map (item_of text sets) tokens);
   unknown = list_any (is_unknown text sets) tokens;
 }
+
+-- what an expression has, where it is whole
+
+abbrev pub is_whole : Parsed → Bool
+is_whole (Whole worth) = true
+is_whole Cut = false
+is_whole (Extra place) = false
+
+abbrev pub value_in : Parsed → ℕ
+value_in (Whole (Ok value)) = value
+value_in (Whole (Err place)) = 0
+value_in Cut = 0
+value_in (Extra place) = 0
+
+abbrev pub zero_in : Parsed → Option Place
+zero_in (Whole (Ok value)) = None
+zero_in (Whole (Err place)) = Some place
+zero_in Cut = None
+zero_in (Extra place) = None

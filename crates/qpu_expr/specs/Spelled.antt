@@ -3,8 +3,7 @@ use Rattle.std.specs.Prelude.{◌≡◌, ℕ, ◌<◌, ◌&&◌, Bool, true, fal
 use Rattle.std.specs.List.{list_any}
 use Rattle.qpu_token.specs.declared.token.Token.{Token}
 use Rattle.qpu_expr.specs.Operands.{is_name}
-use Rattle.qpu_expr.specs.Settings.{Sets, item_of, is_unknown, expression}
-use Rattle.qpu_expr.specs.Findings.{is_whole}
+use Rattle.qpu_expr.specs.Settings.{Sets, item_of, is_unknown, expression, is_whole}
 use Rattle.qpu_expr.specs.Trees.{IsTreeOf}
 use Rattle.qpu_expr.specs.Macros.{is_comma}
 

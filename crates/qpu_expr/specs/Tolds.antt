@@ -9,16 +9,15 @@ use Rattle.qpu_expr.specs.declared.line.Head.TheVariants as head
 use Rattle.qpu_expr.specs.declared.line.Pair.TheVariants.{Repeat, Macro}
 use Rattle.qpu_expr.specs.declared.told.Told.{Told}
 use Rattle.qpu_expr.specs.Symbols.{place_of}
-use Rattle.qpu_expr.specs.Settings.{Sets, expression}
+use Rattle.qpu_expr.specs.Settings.{Sets, expression, is_whole}
 use Rattle.qpu_expr.specs.Tables.{found}
 use Rattle.qpu_expr.specs.Operands.{is_name, instruction_work}
-use Rattle.qpu_expr.specs.Macros.{is_comma, names_of, Macros}
+use Rattle.qpu_expr.specs.Macros.{is_comma, names_of, Macros, called}
 use Rattle.qpu_expr.specs.StageParts.{Stage}
-use Rattle.qpu_expr.specs.Findings.{no_findings, place_in, place_when, is_whole}
+use Rattle.qpu_expr.specs.Findings.{no_findings, place_in, place_when}
 use Rattle.qpu_expr.specs.Directives.{names_twice}
 use Rattle.qpu_expr.specs.LineTokens.{LineTokens}
 use Rattle.qpu_expr.specs.Lines.{label_of, behind_label, head_of}
-use Rattle.qpu_expr.specs.Calls.{called}
 
 -- how many tokens a line's label has
 abbrev pub label_length : List ℕ → List Token → ℕ

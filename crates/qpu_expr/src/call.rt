@@ -1,6 +1,7 @@
 //! What calls of macros and instructions do by themselves.
 ghost use Rattle.std.specs.Prelude.{◌≡◌, IfOk, option_copied};
-ghost use Rattle.qpu_expr.specs.Calls.{call_deed, worked_deed, instruction_deed, judged_deed, other_deed, called, text_deed};
+ghost use Rattle.qpu_expr.specs.Macros.{called};
+ghost use Rattle.qpu_expr.specs.Calls.{call_deed, worked_deed, instruction_deed, judged_deed, other_deed, text_deed};
 
 use crate::deed::{
     Act, Body, Deed, Findings, NO_FINDINGS, behind_first, place_in, plain_line, when,

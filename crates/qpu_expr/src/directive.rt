@@ -1,6 +1,7 @@
 //! What lines with `.set`, `.rep` and `.macro` do by themselves.
 ghost use Rattle.std.specs.Prelude.{◌≡◌, take, IfOk};
-ghost use Rattle.qpu_expr.specs.Findings.{is_whole, value_in, zero_in, misshapen};
+ghost use Rattle.qpu_expr.specs.Settings.{is_whole, value_in, zero_in};
+ghost use Rattle.qpu_expr.specs.Findings.{misshapen};
 ghost use Rattle.qpu_expr.specs.Directives.{set_to, set_deed, repeat_by, repeat_deed, names_twice, defined, macro_by, macro_deed};
 
 use crate::deed::{Act, Deed, Findings, NO_FINDINGS, behind_word, left_deed, place_in, when};

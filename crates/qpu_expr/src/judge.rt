@@ -5,8 +5,8 @@ ghost use Rattle.qpu_expr.specs.declared.limits.TheConstants.{MOST_TOKENS};
 ghost use Rattle.qpu_expr.specs.LineTokens.{LineTokens};
 ghost use Rattle.qpu_expr.specs.Stage.{too_long, label_twice};
 ghost use Rattle.qpu_expr.specs.Answer.{Led};
-ghost use Rattle.qpu_expr.specs.Lines.{behind_label, head_of, label_of};
-ghost use Rattle.qpu_expr.specs.Deeds.{left_tokens, deed_by, fault_in, least_fault, done_by, line_does, closing_deed, closes};
+ghost use Rattle.qpu_expr.specs.Lines.{behind_label, head_of, label_of, left_tokens};
+ghost use Rattle.qpu_expr.specs.Deeds.{deed_by, fault_in, least_fault, done_by, line_does, closing_deed, closes};
 
 use crate::call::{other_deed, text_deed};
 use crate::deed::{Act, Deed, Findings, NO_FINDINGS, behind_word, left_deed, stray_deed};

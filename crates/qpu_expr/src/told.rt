@@ -1,8 +1,7 @@
 //! What a line past the limit of tokens tells, read token by token.
 ghost use Rattle.std.specs.Prelude.{◌≡◌, ◌≤◌, IfOk, OnOk, drop, fold};
 ghost use Rattle.qpu_expr.specs.Walks.{walked};
-ghost use Rattle.qpu_expr.specs.Settings.{expression};
-ghost use Rattle.qpu_expr.specs.Findings.{is_whole};
+ghost use Rattle.qpu_expr.specs.Settings.{expression, is_whole};
 ghost use Rattle.qpu_expr.specs.Operands.{instruction_work};
 ghost use Rattle.qpu_expr.specs.Macros.{names_of};
 ghost use Rattle.qpu_expr.specs.Directives.{names_twice};
