@@ -1,5 +1,5 @@
 //! The search over the marks of a part: whether some way of a program breaks a rule of the part.
-ghost use Rattle.std.specs.Prelude.{◌≡◌, ◌<◌, ◌*◌, ◌^◌, ◌++◌, ◌∷◌, ℕ, true, [], length, OnOk, Contains, slice_index_or};
+ghost use Rattle.std.specs.Prelude.{◌≡◌, ◌<◌, ◌*◌, ◌^◌, ◌++◌, ◌∷◌, ℕ, true, [], length, OnOk, IfOk, IsTrue, Contains, slice_index_or};
 ghost use Rattle.qpu_flow.specs.Control.{asks_for, next_from};
 ghost use Rattle.qpu_hazard.specs.declared.mark.Mark.{Mark};
 ghost use Rattle.qpu_hazard.specs.Parts.{IsFitMark, IsPartClean};
@@ -20,6 +20,8 @@ pub(crate) struct NotShown;
 #[derive(Drop)]
 struct Marks {
     marks: IndexSet<Mark>,
+    /// For each place, the index of the mark that was last found there: a guess, which `is_recent` tries.
+    recent: Vec<usize>,
 }
 
 impl Model for Marks {
@@ -32,13 +34,17 @@ impl Model for Marks {
 }
 
 impl Marks {
-    /// No mark.
-    fn new(alloc: Global) -> Marks
-        ensures { result ≡ [] }
+    /// No mark, of a program of so many words.
+    fn new(alloc: Global, words: usize) -> Result<Marks, NotShown>
+        ensures { IfOk result (λ marks. marks ≡ []) }
     {
-        Marks {
+        let Ok(recent) = vec![in alloc; 0; words] else {
+            return Err(NotShown);
+        };
+        Ok(Marks {
             marks: IndexSet::new(alloc),
-        }
+            recent,
+        })
     }
 
     /// How many marks there are.
@@ -60,14 +66,56 @@ impl Marks {
         }
     }
 
+    /// Whether a mark is the one that was last found at its place.
+    fn is_recent(&self, m: &Mark) -> bool
+        ensures { IsTrue result → Contains self.now m.now }
+    {
+        let Some(at) = m.last else {
+            return false;
+        };
+        let Some(index) = self.recent.get(at as usize) else {
+            return false;
+        };
+        match self.marks.get_index(*index) {
+            Some(found) => found == m,
+            None => false,
+        }
+    }
+
+    /// Keeps the index of the mark that was found at a place, if it has one.
+    fn keep_recent(&mut self, last: Option<u32>, index: usize)
+        ensures { self.new ≡ self.old }
+    {
+        let Some(at) = last else {
+            return;
+        };
+        let at = at as usize;
+        if at < self.recent.len() {
+            self.recent[at] = index;
+        }
+    }
+
+    /// Adds a mark, unless it is there, and gives its index.
+    fn insert(&mut self, m: Mark) -> Result<usize, NotShown>
+        ensures has { OnOk result (Contains self.new m) }
+        ensures grows { OnOk result (Extends self.old self.new) }
+    {
+        let Ok((index, _)) = self.marks.insert_full(m) else {
+            return Err(NotShown);
+        };
+        Ok(index)
+    }
+
     /// Adds a mark, unless it is there.
     fn add(&mut self, m: Mark) -> Result<(), NotShown>
         ensures has { OnOk result (Contains self.new m) }
         ensures grows { OnOk result (Extends self.old self.new) }
     {
-        let Ok(_) = self.marks.insert_full(m) else {
-            return Err(NotShown);
-        };
+        if self.is_recent(&m) {
+            return Ok(());
+        }
+        let index = self.insert(m)?;
+        self.keep_recent(m.last, index);
         Ok(())
     }
 
@@ -218,7 +266,7 @@ impl Marks {
 pub(crate) fn show_part(alloc: Global, flow: &Flow, part: Part) -> Result<(), NotShown>
     ensures { OnOk result (IsPartClean part flow.now) }
 {
-    let mut marks = Marks::new(alloc);
+    let mut marks = Marks::new(alloc, flow.len() as usize)?;
     marks.add(opening_mark())?;
     let mut next = 0;
     while next < marks.len() {

@@ -1,6 +1,6 @@
 use Rattle.qpu_hazard.proofs.SeenLemmas.{same_slots, found_at}
 use Rattle.qpu_hazard.proofs.VisitLemmas.{same_mark}
-use Rattle.qpu_hazard.proofs.marks.Marks.add.Goals as goal
+use Rattle.qpu_hazard.proofs.marks.Marks.insert.Goals as goal
 
 pub returns-clause-has : goal.returns-clause-has
 returns-clause-has c =
