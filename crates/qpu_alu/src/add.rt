@@ -9,9 +9,9 @@ use crate::vectors::{both, differences, either, maxima, minima, opposite, sums, 
 use qpu_word::{AddOp, Lanes, lesser, passing};
 use std::simd::prelude::*;
 
-/// The add unit's results in all lanes.
+/// The add unit's results in all sixteen lanes.
 #[tactic(auto, unfolding(qpu_word::specs::Operations::add_result))]
-fn results(op: AddOp, a: u32x16, b: u32x16) -> u32x16
+pub fn add_results(op: AddOp, a: u32x16, b: u32x16) -> u32x16
     ensures { result ≡ lanes (λ i. add_result op (lane a i) (lane b i)) }
 {
     match op {
@@ -33,8 +33,8 @@ fn results(op: AddOp, a: u32x16, b: u32x16) -> u32x16
     }
 }
 
-/// The carries of an operation that has them.
-fn carries(op: AddOp, a: u32x16, b: u32x16) -> Option<u32>
+/// The mask of carries (add) or borrows (sub) in all lanes, lane i at bit i; other operations have none.
+pub fn add_carries(op: AddOp, a: u32x16, b: u32x16) -> Option<u32>
     ensures { result ≡ carry_mask (Some op) (lane a) (lane b) }
 {
     match op {
@@ -51,6 +51,6 @@ pub fn add_unit(op: AddOp, a: &Lanes, b: &Lanes) -> (Lanes, Option<u32>)
     ensures carries { result.1 ≡ carry_mask (Some op) (lane a.now.v) (lane b.now.v) }
 {
     let (a, b) = (a.vector(), b.vector());
-    let v = results(op, a, b).to_array();
-    (Lanes { v }, carries(op, a, b))
+    let v = add_results(op, a, b).to_array();
+    (Lanes { v }, add_carries(op, a, b))
 }

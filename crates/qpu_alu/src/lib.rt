@@ -10,8 +10,8 @@ mod each;
 mod mul;
 mod vectors;
 
-pub use add::add_unit;
-pub use mul::mul_unit;
+pub use add::{add_carries, add_results, add_unit};
+pub use mul::{mul_results, mul_unit};
 pub use qpu_word::{AddOp, MulOp};
 
 #[cfg(test)]

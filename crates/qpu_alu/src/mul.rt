@@ -7,9 +7,9 @@ use crate::vectors::products_24;
 use qpu_word::{Lanes, MulOp};
 use std::simd::prelude::*;
 
-/// The mul unit's results in all lanes.
+/// The mul unit's results in all sixteen lanes, before rotation.
 #[tactic(auto, unfolding(qpu_word::specs::Operations::mul_result))]
-fn results(op: MulOp, a: u32x16, b: u32x16) -> u32x16
+pub fn mul_results(op: MulOp, a: u32x16, b: u32x16) -> u32x16
     ensures { result ≡ lanes (λ i. mul_result op (lane a i) (lane b i)) }
 {
     match op {
@@ -26,6 +26,6 @@ fn results(op: MulOp, a: u32x16, b: u32x16) -> u32x16
 pub fn mul_unit(op: MulOp, a: &Lanes, b: &Lanes) -> Lanes
     ensures { result.v ≡ lanes (λ i. mul_result op (lane a.now.v i) (lane b.now.v i)) }
 {
-    let v = results(op, a.vector(), b.vector()).to_array();
+    let v = mul_results(op, a.vector(), b.vector()).to_array();
     Lanes { v }
 }

@@ -7,8 +7,9 @@ use Rattle.std.proofs.lemmas.Bool.Decides.{nat_tests}
 use Rattle.qpu_word.specs.declared.word.Word.{Word}
 use Rattle.qpu_word.specs.Words.{writes_link, numbers_of}
 use Rattle.qpu_word.specs.Instruction.{is_link_point}
-use Rattle.qpu_flow.specs.declared.decoded.Decoded.{Decoded}
-use Rattle.qpu_flow.specs.Code.{fields_at, decoded_of, all_decoded}
+use Rattle.qpu_decoded.specs.declared.decoded.Decoded.{Decoded}
+use Rattle.qpu_decoded.specs.Units.{decoded_of}
+use Rattle.qpu_flow.specs.Code.{fields_at, all_decoded}
 use Rattle.qpu_flow.specs.Control.{link_points}
 
 pub length_numbers : (words : List Word) → length (numbers_of words) ≡ length words

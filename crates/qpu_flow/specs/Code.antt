@@ -3,16 +3,13 @@ use Rattle.std.specs.Prelude.{◌≡◌, ◌<◌, ℕ, List, length, Some, map, 
 use Rattle.qpu_word.specs.declared.word.Fields.{Fields}
 use Rattle.qpu_word.specs.declared.fault.WordFault.{WordFault}
 use Rattle.qpu_word.specs.declared.word.Word.{Word}
-use Rattle.qpu_word.specs.Words.{fields_of, is_local, word_fault, IsInProfile}
-use Rattle.qpu_flow.specs.declared.decoded.Decoded.{Decoded}
+use Rattle.qpu_word.specs.Words.{fields_of, word_fault, IsInProfile}
+use Rattle.qpu_decoded.specs.declared.decoded.Decoded.{Decoded}
+use Rattle.qpu_decoded.specs.Units.{decoded_of}
 
 -- the fields of the word at a place, counted in words from 0
 unfoldable pub fields_at : List ℕ → ℕ → Fields
 fields_at code at = fields_of (slice_index code at)
-
--- the fields of a word, and whether it is local
-abbrev pub decoded_of : ℕ → Decoded
-decoded_of number = record { fields = fields_of number; local = is_local (fields_of number) }
 
 -- the words of a program, decoded
 abbrev pub all_decoded : List Word → List Decoded

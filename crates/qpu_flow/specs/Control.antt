@@ -15,7 +15,7 @@ use Rattle.qpu_flow.specs.declared.slots.Slots.{Slots}
 use Rattle.qpu_flow.specs.declared.slots.Successors.{Successors}
 use Rattle.qpu_flow.specs.declared.control.Target.{Target}
 use Rattle.qpu_flow.specs.declared.control.Target.TheVariants.{Byte, AnyLink as ToAnyLink}
-use Rattle.qpu_flow.specs.declared.decoded.Decoded.{Decoded}
+use Rattle.qpu_decoded.specs.declared.decoded.Decoded.{Decoded}
 use Rattle.qpu_flow.specs.Code.{fields_at, all_decoded, AllInProfile}
 
 -- branches

@@ -4,11 +4,13 @@ ghost use Rattle.std.specs.Option.{SomeIff};
 ghost use Rattle.std.specs.List.{range_with_len};
 ghost use Rattle.qpu_word.specs.Instruction.{is_link_point};
 ghost use Rattle.qpu_word.specs.Words.{word_fault, numbers_of};
-ghost use Rattle.qpu_flow.specs.Code.{fields_at, decoded_of, AllInProfile, IsFirstOutside};
+ghost use Rattle.qpu_decoded.specs.Units.{decoded_of};
+ghost use Rattle.qpu_flow.specs.Code.{fields_at, AllInProfile, IsFirstOutside};
 ghost use Rattle.qpu_flow.specs.Faults.{IsFlowFault};
 ghost use Rattle.qpu_flow.specs.Control.{link_points};
 
-use crate::decoded::{Decoded, decode};
+use crate::decoding::decode;
+use qpu_decoded::Decoded;
 use qpu_word::code::BRANCH_SLOTS;
 use qpu_word::{Fields, NoMemory, Word, WordFault};
 use std::alloc::{AllocError, Global};
@@ -173,7 +175,7 @@ impl Flow {
         self.words.len() as u32
     }
 
-    /// The fields of the word at a place, and whether the word is local.
+    /// The word at a place, decoded.
     pub fn decoded(&self, at: u32) -> &Decoded
         requires { at < length self.now }
         ensures { result.now ≡ decoded_of (slice_index self.now at) }

@@ -7,14 +7,13 @@
 
 mod branch;
 mod control;
-mod decoded;
+mod decoding;
 mod flow;
 mod laws;
 mod slots;
 mod ways;
 
 pub use control::{Control, Next, Progress, Target};
-pub use decoded::Decoded;
 pub use flow::{Flow, FlowFault};
 pub use laws::{one_answer_follows, one_word_is_first_outside};
 pub use slots::{Slots, Successors};

@@ -27,7 +27,7 @@ unfolding mul_values
 mul_values_by f p ins op a b result known first second is = is ∙ lanes_of_two (mul_result op) first second ∙ rw known refl
 
 -- the carries of operands that agree lane by lane
-carries_same : (carry : Option (ℕ → ℕ → Bool)) (a b c d : ℕ → ℕ) → ((k : ℕ) → k < 16 → a k ≡ c k) → ((k : ℕ) → k < 16 → b k ≡ d k)
+pub carries_same : (carry : Option (ℕ → ℕ → Bool)) (a b c d : ℕ → ℕ) → ((k : ℕ) → k < 16 → a k ≡ c k) → ((k : ℕ) → k < 16 → b k ≡ d k)
     → option_map (λ t. mask (λ i. t (a i) (b i))) carry ≡ option_map (λ t. mask (λ i. t (c i) (d i))) carry
 carries_same None a b c d first second = refl
 carries_same (Some t) a b c d first second =

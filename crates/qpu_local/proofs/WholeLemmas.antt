@@ -10,7 +10,7 @@ use Rattle.qpu_word.specs.Words.{swaps_writes, add_writes, mul_writes}
 use Rattle.qpu_word.specs.Processor.{ProcessorState}
 use Rattle.qpu_word.specs.Writing.{pack_mode, old_at, left, stored, written}
 use Rattle.qpu_word.specs.Instruction.{write_cond, add_sent, mul_sent, add_stored, mul_stored, put_add, put_mul, put_loaded, registers_after}
-use Rattle.qpu_local.specs.Whole.{goes_whole, is_whole}
+use Rattle.qpu_decoded.specs.Targets.{goes_whole, is_whole}
 use Rattle.qpu_local.proofs.StoreLemmas.{whole_left}
 
 both : (a b : Bool) → (a && b) ≡ true → (a ≡ true) × (b ≡ true)

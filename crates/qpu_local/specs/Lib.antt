@@ -1,4 +1,4 @@
 pub mod Views
 pub mod Steps
 pub mod Quiet
-pub mod Whole
+pub mod Plain

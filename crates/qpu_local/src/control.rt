@@ -176,6 +176,23 @@ impl Processor {
         }
     }
 
+    /// Where control stands after a word that is no branch and no program end.
+    #[inline(always)]
+    pub(crate) fn one_later(&self) -> NextControl
+        requires { self.now.executed < 1000000 }
+        ensures place { result.place ≡ place_later self.now.rest self.now.place }
+        ensures rest { result.rest ≡ rest_later self.now.rest }
+        ensures halt { result.halt ≡ halt_later self.now.rest }
+        ensures within { result.place ≤ 2 ^ 29 + self.now.executed + 1 }
+        ensures coming { coming_place result.rest < 2 ^ 29 }
+    {
+        NextControl {
+            place: place_one_later(self.rest, self.place),
+            rest: rest_one_later(self.rest),
+            halt: halt_one_later(self.rest),
+        }
+    }
+
     /// Where control stands after a word.
     #[inline(always)]
     pub(crate) fn next(&self, f: &Fields) -> NextControl

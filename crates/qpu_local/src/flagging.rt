@@ -6,6 +6,7 @@ ghost use Rattle.qpu_word.specs.Instruction.{zn_of, flags_of, unit_flags, load_f
 
 use qpu_word::code::BRANCH_ALWAYS;
 use qpu_word::{Fields, Flags, Lanes, negatives, zeros};
+use std::simd::prelude::*;
 
 /// A mask of all lanes.
 const ALL: u32 = 0xffff;
@@ -104,10 +105,10 @@ pub fn branches(cond: u32, flags: &Flags) -> bool
 
 /// The flags that a list of results sets, with a mask C.
 #[tactic(auto, unfolding(qpu_word::specs::Instruction::zn_of))]
-fn set_by(values: &Lanes, c: Option<u32>) -> Flags
-    ensures { result ≡ flags_of values.now.v c }
+#[inline(always)]
+pub(crate) fn set_by(results: u32x16, c: Option<u32>) -> Flags
+    ensures { result ≡ flags_of results c }
 {
-    let results = values.vector();
     Flags {
         zn: Some((zeros(results), negatives(results))),
         c,
@@ -128,9 +129,9 @@ pub fn after_units(
     if f.sf != 1 {
         flags
     } else if f.add_active() {
-        set_by(add, carries)
+        set_by(add.vector(), carries)
     } else if f.mul_active() {
-        set_by(mul, None)
+        set_by(mul.vector(), None)
     } else {
         flags
     }
@@ -142,7 +143,7 @@ pub fn after_load(f: &Fields, flags: Flags, values: &Lanes) -> Flags
     ensures { result ≡ load_flags f.now flags values.now.v }
 {
     if f.sf == 1 && f.is_load() {
-        set_by(values, None)
+        set_by(values.vector(), None)
     } else {
         flags
     }

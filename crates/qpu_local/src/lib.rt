@@ -6,6 +6,7 @@
 
 mod control;
 mod flagging;
+mod plain;
 mod port;
 mod processor;
 mod reading;

@@ -1,5 +1,5 @@
 //! One whole local instruction.
-ghost use Rattle.std.specs.Prelude.{◌≡◌, ◌+◌, ◌^◌, ◌<◌, ◌≤◌, IsTrue, if◌then◌else◌};
+ghost use Rattle.std.specs.Prelude.{◌≡◌, ◌+◌, ◌^◌, ◌<◌, ◌≤◌, true, IsTrue, if◌then◌else◌};
 ghost use Rattle.qpu_word.specs.Lanes.{lanes};
 ghost use Rattle.qpu_word.specs.Words.{fields_of, is_branch, is_local, IsInProfile};
 ghost use Rattle.qpu_word.specs.declared.traffic.Ins.{Ins};
@@ -8,6 +8,7 @@ ghost use Rattle.qpu_word.specs.Fit.{IsFit};
 ghost use Rattle.qpu_word.specs.Books.{IsSoundBook};
 ghost use Rattle.qpu_word.specs.Processor.{ProcessorState};
 ghost use Rattle.qpu_word.specs.Instruction.{registers_after, moved_on, raised_by, add_stored, mul_stored, add_sent, mul_sent, flags_after, no_ins, put_add, put_mul, done, halted, outs_of, after_setups, after_uniform_to, then_after, branch_fails, local_result};
+ghost use Rattle.qpu_decoded.specs.Units.{decoded_of};
 ghost use Rattle.qpu_local.specs.Steps.{Steps};
 ghost use Rattle.qpu_local.specs.Views.{coming_place};
 ghost use Rattle.qpu_local.specs.Quiet.{StaysIn, IsQuiet};
@@ -15,7 +16,7 @@ ghost use Rattle.qpu_local.specs.Quiet.{StaysIn, IsQuiet};
 use crate::control::NextControl;
 use crate::processor::Processor;
 use crate::storing::cond_of;
-use crate::whole::is_whole;
+use qpu_decoded::{Decoded, Deed, is_whole};
 use qpu_word::code::{NOWHERE, WRITE_HOST_INT};
 use qpu_word::{Book, FaultKind, Fields, Flags, Halt, Ins, LANES, Lanes, Program, Sent, Word};
 
@@ -117,7 +118,7 @@ impl Processor {
 
     /// Moves on by one instruction, with the book as it is.
     #[tactic(auto, unfolding(qpu_word::specs::Instruction::moved_on))]
-    fn go_on(&mut self, flags: Flags, next: NextControl, raised: u32)
+    pub(crate) fn go_on(&mut self, flags: Flags, next: NextControl, raised: u32)
         requires executed { self.old.executed < 1000000 }
         requires place { next.place ≤ 2 ^ 29 + self.old.executed + 1 }
         requires coming { coming_place next.rest < 2 ^ 29 }
@@ -243,7 +244,7 @@ impl Processor {
     /// 4,096 words. None: it was done. Some: it faulted with `Setup`, `SetupsFull` or `Branch`, and
     /// the halt alone changed.
     #[tactic(auto, unfolding(qpu_word::specs::Instruction::local_result), using(qpu_word::proofs::ProfileLemmas::fit_of_fields))]
-    pub fn step_fields<G: Program>(&mut self, program: &G, f: &Fields) -> Option<FaultKind>
+    fn step_fields<G: Program>(&mut self, program: &G, f: &Fields) -> Option<FaultKind>
         requires going { self.old.halt ≡ Going }
         requires executed { self.old.executed < 1000000 }
         requires words { G.len program.now ≤ 4096 }
@@ -258,6 +259,25 @@ impl Processor {
             return Some(FaultKind::Branch);
         }
         self.step_word(f)
+    }
+
+    /// One whole local instruction at its place, decoded, of a program of at most 4,096 words. None:
+    /// it was done. Some: it faulted with `Setup`, `SetupsFull` or `Branch`, and the halt alone changed.
+    pub fn step_decoded<G: Program>(&mut self, program: &G, word: &Decoded) -> Option<FaultKind>
+        requires going { self.old.halt ≡ Going }
+        requires executed { self.old.executed < 1000000 }
+        requires words { G.len program.now ≤ 4096 }
+        requires place { self.old.place < G.len program.now }
+        requires profile { IsInProfile (G.word program.now self.old.place) }
+        requires decoded { word.now ≡ decoded_of (G.word program.now self.old.place) }
+        requires local { word.now.local ≡ true }
+        ensures { Steps result (local_result (G.is_link program.now) (G.word program.now self.old.place) self.old) self.old self.new }
+    {
+        if let Deed::Plain(units) = &word.deed {
+            self.step_units(units);
+            return None;
+        }
+        self.step_fields(program, &word.fields)
     }
 
     /// One whole local instruction at its place, of a program of at most 4,096 words. None: it was

@@ -24,7 +24,7 @@ const REPLICATED: usize = 5;
 const QUAD: usize = 4;
 
 /// The packing that leaves values as they are.
-pub const WHOLE: u32 = 0;
+const WHOLE: u32 = 0;
 
 /// One number or another.
 fn pick(first: bool, a: u32, b: u32) -> u32
@@ -34,7 +34,7 @@ fn pick(first: bool, a: u32, b: u32) -> u32
 }
 
 /// The packing of what goes to a file.
-pub fn pack_mode_of(f: &Fields, in_b: bool) -> u32
+fn pack_mode_of(f: &Fields, in_b: bool) -> u32
     requires { IsFit f.now }
     ensures value { result ≡ pack_mode f.now in_b }
     ensures below { result < 16 }

@@ -11,8 +11,9 @@ use Rattle.qpu_word.proofs.ProfileLemmas.{every_row}
 use Rattle.qpu_tmu.specs.Looks.{LookupsState}
 use Rattle.qpu_shared.specs.declared.pending.Pending.{Pending}
 use Rattle.qpu_shared.specs.Exec.{HasRoom}
-use Rattle.qpu_flow.specs.declared.decoded.Decoded.{Decoded}
-use Rattle.qpu_flow.specs.Code.{decoded_of, fields_at}
+use Rattle.qpu_decoded.specs.declared.decoded.Decoded.{Decoded}
+use Rattle.qpu_decoded.specs.Units.{decoded_of}
+use Rattle.qpu_flow.specs.Code.{fields_at}
 use Rattle.qpu_hazard.specs.Paths.{IsClean}
 use Rattle.qpu_hazard.specs.Holds.{WordHolds}
 use Rattle.qpu_hazard.proofs.HoldLemmas.{word_holds}
@@ -26,6 +27,10 @@ holds_on_path code p looks clean on = word_holds code on.path p.place clean on.i
 -- it is a word of the program
 pub place_in : (code : List ℕ) (p : ProcessorState) (looks : LookupsState) → IsClean code → IsOnPath code p looks → p.place < length code
 place_in code p looks clean on = (holds_on_path code p looks clean on).there
+
+-- it is decoded as the word at its place
+pub decoded_word : (code : List ℕ) (place at : ℕ) (d : Decoded) → at ≡ place → d ≡ decoded_of (slice_index code at) → d ≡ decoded_of (slice_index code place)
+decoded_word code place at d same is = is ∙ ap (λ k. decoded_of (slice_index code k)) same
 
 -- its decoded fields are the word's, and so is the test of it
 pub decoded_fields : (code : List ℕ) (place at : ℕ) (d : Decoded) → at ≡ place → d ≡ decoded_of (slice_index code at) → d.fields ≡ fields_of (slice_index code place)

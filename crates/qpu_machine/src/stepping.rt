@@ -1,7 +1,8 @@
 //! One step of each actor.
-ghost use Rattle.std.specs.Prelude.{◌≡◌, ◌≢◌, ◌<◌, ◌≤◌, ◌+◌, ℕ, length, slice_index, slice_index_or, IsTrue, false, true, Some, []};
+ghost use Rattle.std.specs.Prelude.{◌≡◌, ◌≢◌, ◌<◌, ◌≤◌, ◌+◌, ℕ, length, slice_index, slice_index_or, false, true, Some, []};
 ghost use Rattle.qpu_word.specs.declared.state.Halt.TheVariants.{Going};
-ghost use Rattle.qpu_word.specs.Words.{fields_of, is_local, IsInProfile};
+ghost use Rattle.qpu_word.specs.Words.{fields_of, IsInProfile};
+ghost use Rattle.qpu_decoded.specs.Units.{decoded_of};
 ghost use Rattle.qpu_word.specs.Instruction.{is_link_point, local_result};
 ghost use Rattle.qpu_shared.specs.SharedState.{SharedState};
 ghost use Rattle.qpu_shared.specs.Local.{local_outcome};
@@ -11,10 +12,10 @@ ghost use Rattle.qpu_machine.specs.Kept.{IsOnPath, KeepsPath};
 ghost use Rattle.qpu_machine.specs.Machine.{MachineState, processor_of, words_of};
 ghost use Rattle.qpu_machine.specs.Took.{TookWord};
 
+use qpu_decoded::Decoded;
 use qpu_hazard::{Checked, Programs};
 use qpu_local::{Halt, Processor};
 use qpu_shared::{Did, Shared};
-use qpu_word::Fields;
 
 /// Whether a processor is running: it goes on, and has executed less than a limit.
 pub(crate) fn is_running(processor: &Processor, limit: u32) -> bool
@@ -23,18 +24,18 @@ pub(crate) fn is_running(processor: &Processor, limit: u32) -> bool
     processor.halt() == Halt::Going && processor.executed() < limit
 }
 
-/// Does the local word at a processor's place, whose fields these are.
-pub(crate) fn do_local(p: &mut Processor, program: &Checked, f: &Fields) -> Did
+/// Does the local word at a processor's place.
+pub(crate) fn do_local(p: &mut Processor, program: &Checked, word: &Decoded) -> Did
     requires going { p.old.halt ≡ Going }
     requires executed { p.old.executed < 1000000 }
     requires words { length program.now ≤ 4096 }
     requires place { p.old.place < length program.now }
     requires profile { IsInProfile (slice_index program.now p.old.place) }
-    requires fields { f.now ≡ fields_of (slice_index program.now p.old.place) }
-    requires local { IsTrue (is_local f.now) }
+    requires decoded { word.now ≡ decoded_of (slice_index program.now p.old.place) }
+    requires local { word.now.local ≡ true }
     ensures { (h : SharedState) → Does result (local_outcome (local_result (is_link_point program.now) (slice_index program.now p.old.place) p.old) h) p.old h p.new h }
 {
-    match p.step_fields(program, f) {
+    match p.step_decoded(program, word) {
         None => Did::Stepped,
         Some(kind) => Did::Faulted(kind),
     }
@@ -54,7 +55,7 @@ fn do_word(p: &mut Processor, program: &Checked, shared: &mut Shared, q: u32) ->
     let _words = program.words();
     let word = program.decoded(p.place());
     if word.local {
-        do_local(p, program, &word.fields)
+        do_local(p, program, word)
     } else {
         shared.exec_fields(q, p, &word.fields)
     }

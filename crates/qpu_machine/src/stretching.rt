@@ -23,7 +23,7 @@ fn step_alone(processor: &mut Processor, program: &Checked, limit: u32) -> bool
     if !word.local {
         return false;
     }
-    do_local(processor, program, &word.fields);
+    do_local(processor, program, word);
     true
 }
 

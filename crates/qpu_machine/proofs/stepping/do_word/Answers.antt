@@ -6,7 +6,7 @@ use Rattle.qpu_word.specs.Instruction.{is_link_point}
 use Rattle.qpu_shared.specs.Exec.{HasRoom}
 use Rattle.qpu_shared.specs.Instruction.{pending_of}
 use Rattle.qpu_shared.proofs.LocalLemmas.{outcome_local}
-use Rattle.qpu_machine.proofs.WordLemmas.{place_in, room_on_path, shared_straight, decoded_fields, decoded_local}
+use Rattle.qpu_machine.proofs.WordLemmas.{place_in, room_on_path, shared_straight, decoded_word, decoded_fields, decoded_local}
 use Rattle.qpu_machine.proofs.stepping.do_word.Goals as goal
 
 pub decoded-word-requires : goal.decoded-word-requires
@@ -19,14 +19,8 @@ pub do_local-requires-clause-profile : goal.do_local-requires-clause-profile
 do_local-requires-clause-profile c =
     c.words-words.ensures.inside c.args.p.now.place (place_in c.args.program.now c.args.p.now _ c.words-words.ensures.clean c.requires.on_path)
 
-pub do_local-requires-clause-fields : goal.do_local-requires-clause-fields
-do_local-requires-clause-fields c = decoded_fields c.args.program.now c.args.p.now.place c.place.result c.decoded-word.result.now c.place.ensures c.decoded-word.ensures
-
-pub do_local-requires-clause-local : goal.do_local-requires-clause-local
-do_local-requires-clause-local c =
-    let fields = decoded_fields c.args.program.now c.args.p.now.place c.place.result c.decoded-word.result.now c.place.ensures c.decoded-word.ensures in
-    let local = decoded_local c.args.program.now c.args.p.now.place c.place.result c.decoded-word.result.now c.place.ensures c.decoded-word.ensures in
-    rw fields (sym local ∙ c.if-word.true)
+pub do_local-requires-clause-decoded : goal.do_local-requires-clause-decoded
+do_local-requires-clause-decoded c = decoded_word c.args.program.now c.args.p.now.place c.place.result c.decoded-word.result.now c.place.ensures c.decoded-word.ensures
 
 pub exec_fields-requires-clause-profile : goal.exec_fields-requires-clause-profile
 exec_fields-requires-clause-profile c = (

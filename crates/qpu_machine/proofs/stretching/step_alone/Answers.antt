@@ -2,8 +2,8 @@ use Rattle.std.proofs.Common.{◌≡◌, [], true, rules, ap, sym, ◌∙◌}
 use Rattle.std.specs.Prelude.{slice_index}
 use Rattle.qpu_word.specs.Words.{fields_of, is_local}
 use Rattle.qpu_shared.specs.SharedState.{opening_shared}
-use Rattle.qpu_flow.specs.declared.decoded.Decoded.{Decoded}
-use Rattle.qpu_machine.proofs.WordLemmas.{place_in}
+use Rattle.qpu_decoded.specs.declared.decoded.Decoded.{Decoded}
+use Rattle.qpu_machine.proofs.WordLemmas.{place_in, decoded_word}
 use Rattle.qpu_machine.proofs.LocalLemmas.{next_is, took_local}
 use Rattle.qpu_machine.proofs.SoundLemmas.{going_running}
 use Rattle.qpu_machine.proofs.stretching.step_alone.Goals as goal
@@ -23,6 +23,9 @@ do_local-requires-clause-profile c =
     let going = going_running c.args.limit c.args.processor.now (sym c.is_running.ensures ∙ c.if-not-is_running.false) in
     c.words-words.ensures.inside c.args.processor.now.place
     (place_in c.args.program.now c.args.processor.now c.requires.kept.0 c.words-words.ensures.clean (c.requires.kept.1 going))
+
+pub do_local-requires-clause-decoded : goal.do_local-requires-clause-decoded
+do_local-requires-clause-decoded c = decoded_word c.args.program.now c.args.processor.now.place c.place.result c.decoded-word.result.now c.place.ensures c.decoded-word.ensures
 
 pub returns : goal.returns
 returns c =

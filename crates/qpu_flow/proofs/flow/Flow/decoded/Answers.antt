@@ -1,5 +1,5 @@
 use Rattle.std.proofs.Common.{◌≡◌, ◌<◌, length, vec_len, get_or, ap, sym, rules, arith, ◌∙◌}
-use Rattle.qpu_flow.specs.Code.{decoded_of}
+use Rattle.qpu_decoded.specs.Units.{decoded_of}
 use Rattle.qpu_flow.proofs.CodeLemmas.{length_numbers, length_decoded, decoded_at}
 use Rattle.qpu_flow.proofs.flow.Flow.decoded.Goals as goal
 
