@@ -1,3 +1,4 @@
 pub mod Shapes
 pub mod ByteLemmas
 pub mod FootLemmas
+pub mod RunLemmas

@@ -1,7 +1,7 @@
 -- Elements of 8, 16 and 32 bits in lists of words: byte n of a list is byte n mod 4, from the low
 -- end, of word n div 4. Places are byte places; that an element's place is a multiple of its size is
 -- this project's own.
-use Rattle.std.specs.Prelude.{ℕ, ◌+◌, ◌*◌, ◌/◌, ◌%◌, ◌^◌, ◌==◌, Bool, List, length, slice_index, slice_set, Option, Some, None, nat_lt, if◌then◌else◌}
+use Rattle.std.specs.Prelude.{ℕ, ◌+◌, ◌*◌, ◌/◌, ◌%◌, ◌^◌, ◌==◌, Bool, List, length, slice_index, slice_set, Option, Some, None, nat_lt, take, drop, ◌++◌, if◌then◌else◌}
 use Rattle.qpu_bytes.specs.declared.size.Size.{Size}
 use Rattle.qpu_bytes.specs.declared.size.Size.TheVariants.{Byte, Half, Word}
 
@@ -50,3 +50,11 @@ byte_at words n = part words n Byte
 -- the byte place in the VPM of a byte of the word in a row and a column
 abbrev pub byte_place : ℕ → ℕ → ℕ → ℕ
 byte_place row column byte = 64 * row + 4 * column + byte
+
+-- the words with those from an index on replaced by others
+abbrev pub with_words : List ℕ → ℕ → List ℕ → List ℕ
+with_words words at values = take at words ++ (values ++ drop (at + length values) words)
+
+-- so many words from an index on
+abbrev pub words_from : List ℕ → ℕ → ℕ → List ℕ
+words_from words at count = take count (drop at words)

@@ -29,6 +29,15 @@ pub struct Pair {
     pub size: Size,
 }
 
+/// Where a row of words lies that stand side by side in memory and in the VPM.
+#[derive(Clone, Copy, Debug, PartialEq, Eq)]
+pub struct WordRow {
+    /// The index of its first word in memory.
+    pub at: u32,
+    /// The index of its first word in the VPM, row by row.
+    pub place: u32,
+}
+
 /// A transfer may not start: some element of it lies outside the VPM or memory, or its address is no
 /// multiple of the elements' size, or it has more than one row and its pitch (of a store: its
 /// stride) is no multiple of the size.

@@ -1,14 +1,17 @@
-ghost use Rattle.std.specs.Prelude.{◌≡◌, ◌<◌, ◌≤◌, ◌/◌, ◌↔◌, ℕ, IsOk, IfOk, IsTrue, Some};
+ghost use Rattle.std.specs.Prelude.{◌≡◌, ◌<◌, ◌≤◌, ◌+◌, ◌/◌, ◌↔◌, ℕ, IsOk, IfOk, IfSome, IsTrue, Some};
 ghost use Rattle.std.specs.List.{slice_get};
 ghost use Rattle.qpu_word.specs.declared.code.TheConstants.{MEMORY_WORDS};
 ghost use Rattle.qpu_bytes.specs.Elements.{is_place};
 ghost use Rattle.qpu_dma.specs.Transfers.{transfer_of, fits, pair_at, row_pairs};
 ghost use Rattle.qpu_dma.specs.Moves.{after_row};
+ghost use Rattle.qpu_dma.specs.Runs.{LiesInRun};
 ghost use Rattle.qpu_dma.specs.States.{state_of, IsPossible};
 
 use crate::decoding::places;
 use crate::places::Places;
-use crate::{Direction, Pair, TransferOut};
+use crate::{Direction, Pair, TransferOut, WordRow};
+use qpu_bytes::Size;
+use qpu_word::code::WORD_BYTES;
 use std::marker::Model;
 
 /// A DMA transfer that may start, and how many of its rows were moved: fewer than it has. Contracts
@@ -95,6 +98,22 @@ impl Transfer {
         ensures place_whole { IsTrue (is_place result.place result.size) }
     {
         self.places.pair(k, j)
+    }
+
+    /// Where the next row lies, if its elements are words that stand side by side in the VPM. None of
+    /// all other rows.
+    pub fn word_row(&self) -> Option<WordRow>
+        ensures run { IfSome result (LiesInRun self.now self.now.moved) }
+        ensures inside { IfSome result (λ row. row.place + self.now.row_length ≤ 1024) }
+    {
+        if self.places.size != Size::Word || self.places.vertical {
+            return None;
+        }
+        let first = self.pair(self.moved, 0);
+        Some(WordRow {
+            at: first.at / WORD_BYTES,
+            place: first.place / WORD_BYTES,
+        })
     }
 
     /// What is left after the next row is moved: None after the last.

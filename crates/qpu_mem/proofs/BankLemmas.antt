@@ -1,9 +1,12 @@
 -- Words in banks: how many there are, where each stands, and what is left after one is set.
-use Rattle.std.proofs.Common.{◌≡◌, ◌≢◌, ℕ, suc, ◌+◌, ◌-◌, ◌*◌, ◌/◌, ◌%◌, ◌<◌, ◌≤◌, ◌⊎◌, inl, inr, List, [], ◌∷◌, ◌++◌, min, length, get_or, take, drop, replicate, refl, ap, sym, ◌∙◌, arith}
+use Rattle.std.proofs.Common.{◌≡◌, ◌≢◌, ℕ, suc, ◌+◌, ◌-◌, ◌*◌, ◌/◌, ◌%◌, ◌^◌, ◌<◌, ◌≤◌, ◌⊎◌, inl, inr, zero, false, List, [], ◌∷◌, ◌++◌, min, length, get_or, take, drop, replicate, refl, ap, sym, ◌∙◌, arith}
+use Rattle.std.specs.Prelude.{◌==◌}
 use Rattle.std.proofs.Math.ListN.{set, length-set}
 use Rattle.std.proofs.lemmas.Bool.{cases_eq, cases_lt}
 use Rattle.std.proofs.lemmas.List.{ext_get_or, get_or_push, length-append, get_or_append_left, get_or-append_right, get_or_default, get_or-set_same, get_or-set_other, get_or-take, get_or-drop, length-take, length-drop, get_or-replicate, length-replicate}
 use Rattle.std.proofs.lemmas.List.Concat.{flat_map-cons}
+use Rattle.qpu_bytes.specs.Elements.{with_words, words_from}
+use Rattle.qpu_bytes.proofs.RunLemmas.{length_with, before_run, in_run, behind_run, length_from, word_from}
 use Rattle.qpu_mem.specs.Banks.{words_in, bank_words, IsBanked}
 use Rattle.qpu_mem.specs.declared.bank.TheConstants.{BANK}
 use Rattle.qpu_mem.specs.declared.memory.TheConstants.{GROUP}
@@ -152,6 +155,117 @@ group_in {words} {first} {bank} {now} k banks of view at low is =
 
       as_long : min GROUP (length bank - first % BANK) ≡ min GROUP (length now - first)
       as_long = let all : length now ≡ words = ap length (sym view) ∙ length_in words banks of in omega (arith, long, all, at)
+
+-- words below the length of the list are words in banks, and stand in theirs
+pub run_of : {words last : ℕ} {now : List ℕ} (banks : List (List ℕ)) → IsBanked words banks → words_in banks ≡ now → last ≤ length now → last ≤ words
+run_of {words} banks of is low =
+    let long : length (words_in banks) ≡ words = length_in words banks of in
+    let same = ap length is in
+    omega (arith, long, same, low)
+
+pub not_none : (n : ℕ) → false ≡ (n == 0) → 1 ≤ n
+not_none zero none = absurd (cc)
+not_none (suc n) some = omega arith
+
+pub run_there : {words : ℕ} (banks : List (List ℕ)) (at count : ℕ) → IsBanked words banks → 1 ≤ count → at + count ≤ words → at % BANK + count ≤ BANK → at % BANK + count ≤ length (get_or banks (at / BANK) [])
+run_there banks at count of some low within =
+    let long = of.each (at / BANK) (bank_there banks at of (omega (arith, some, low))) in
+    omega (arith, long, low, within)
+
+-- words that stand in one bank
+pub run_in : {words count : ℕ} {bank now : List ℕ} (at : ℕ) (banks : List (List ℕ)) → IsBanked words banks → words_in banks ≡ now → 1 ≤ count → at + count ≤ words → at % BANK + count ≤ BANK
+    → bank ≡ get_or banks (at / BANK) [] → words_from bank (at % BANK) count ≡ words_from now at count
+run_in {words} {count} {bank} {now} at banks of view some low within is =
+    ext_get_or 0 (words_from bank (at % BANK) count) (words_from now at count)
+    (length_from bank (at % BANK) count inside ∙ sym (length_from now at count short))
+    (λ k there.
+    let long = length_from bank (at % BANK) count inside in
+    let small : k < count = omega (arith, long, there) in
+    let beside : (at + k) / BANK ≡ at / BANK = omega (arith, small, within) in
+    let place : (at + k) % BANK ≡ at % BANK + k = omega (arith, small, within) in
+    word_from bank (at % BANK) count k small
+    ∙ ap (λ b. get_or b (at % BANK + k) 0) is
+    ∙ rw (sym beside, sym place) (sym (read words banks (at + k) of (omega (arith, small, low))))
+    ∙ ap (λ ws. get_or ws (at + k) 0) view
+    ∙ sym (word_from now at count k small)) where
+      long_bank : length bank ≡ bank_words words (at / BANK)
+      long_bank = ap length is ∙ of.each (at / BANK) (bank_there banks at of (omega (arith, some, low)))
+
+      inside : at % BANK + count ≤ length bank
+      inside = omega (arith, long_bank, low, within)
+
+      short : at + count ≤ length now
+      short = let all : length now ≡ words = ap length (sym view) ∙ length_in words banks of in omega (arith, all, low)
+
+-- and are as small as those of their bank
+pub run_small : (bank now : List ℕ) (place at count : ℕ) → words_from bank place count ≡ words_from now at count → ((i : ℕ) → get_or bank i 0 < 2 ^ 32) → (i : ℕ) → i < count → get_or now (at + i) 0 < 2 ^ 32
+run_small bank now place at count same small i low =
+    let is : get_or bank (place + i) 0 ≡ get_or now (at + i) 0 = sym (word_from bank place count i low) ∙ ap (λ ws. get_or ws i 0) same ∙ word_from now at count i low in
+    rw (sym is) (small (place + i))
+
+-- words that are written in their bank are written in the list
+pub run_written : {words : ℕ} {bank : List ℕ} (at : ℕ) (banks : List (List ℕ)) (values : List ℕ) → IsBanked words banks → 1 ≤ length values → at + length values ≤ words → at % BANK + length values ≤ BANK
+    → bank ≡ get_or banks (at / BANK) [] → words_in (set banks (at / BANK) (with_words bank (at % BANK) values)) ≡ with_words (words_in banks) at values
+run_written {words} {bank} at banks values of some low within is =
+    ext_get_or 0 (words_in after) (with_words (words_in banks) at values)
+    (length_in words after still ∙ sym (length_with (words_in banks) at values (omega (arith, long, low)) ∙ long))
+    (λ k there.
+    let small : k < words = let all = length_in words after still in omega (arith, all, there) in
+    read words after k still small ∙ one_word k small (cases_eq (k / BANK) (at / BANK)) (cases_lt k at) (cases_lt k (at + length values))) where
+      there : at / BANK < length banks
+      there = bank_there banks at of (omega (arith, some, low))
+
+      long : length (words_in banks) ≡ words
+      long = length_in words banks of
+
+      long_bank : length bank ≡ bank_words words (at / BANK)
+      long_bank = ap length is ∙ of.each (at / BANK) there
+
+      inside : at % BANK + length values ≤ length bank
+      inside = omega (arith, long_bank, low, within)
+
+      inside_all : at + length values ≤ length (words_in banks)
+      inside_all = omega (arith, long, low)
+
+      after : List (List ℕ)
+      after = set banks (at / BANK) (with_words bank (at % BANK) values)
+
+      still : IsBanked words after
+      still = kept banks (at / BANK) (with_words bank (at % BANK) values) (length_with bank (at % BANK) values inside ∙ ap length is) of
+
+      in_bank : (k : ℕ) → k / BANK ≡ at / BANK → get_or (get_or after (k / BANK) []) (k % BANK) 0 ≡ get_or (with_words bank (at % BANK) values) (k % BANK) 0
+      in_bank k beside = rw beside (ap (λ b. get_or b (k % BANK) 0) (get_or-set_same banks (at / BANK) (with_words bank (at % BANK) values) [] there))
+
+      old : (k : ℕ) → k < words → k / BANK ≡ at / BANK → get_or bank (k % BANK) 0 ≡ get_or (words_in banks) k 0
+      old k small beside = ap (λ b. get_or b (k % BANK) 0) is ∙ ap (λ i. get_or (get_or banks i []) (k % BANK) 0) (sym beside) ∙ sym (read words banks k of small)
+
+      one_word : (k : ℕ) → k < words → (k / BANK ≡ at / BANK) ⊎ (k / BANK ≢ at / BANK) → (k < at) ⊎ (at ≤ k) → (k < at + length values) ⊎ (at + length values ≤ k)
+          → get_or (get_or after (k / BANK) []) (k % BANK) 0 ≡ get_or (with_words (words_in banks) at values) k 0
+      one_word k small (inl beside) (inl early) ends =
+          in_bank k beside
+          ∙ before_run bank (at % BANK) values (k % BANK) inside (omega (arith, beside, early))
+          ∙ old k small beside
+          ∙ sym (before_run (words_in banks) at values k inside_all early)
+      one_word k small (inl beside) (inr from) (inl to) =
+          let place : k % BANK - at % BANK ≡ k - at = omega (arith, beside, from) in
+          in_bank k beside
+          ∙ in_run bank (at % BANK) values (k % BANK) inside (omega (arith, beside, from)) (omega (arith, beside, to))
+          ∙ ap (λ i. get_or values i 0) place
+          ∙ sym (in_run (words_in banks) at values k inside_all from to)
+      one_word k small (inl beside) (inr from) (inr late) =
+          in_bank k beside
+          ∙ behind_run bank (at % BANK) values (k % BANK) inside (omega (arith, beside, late))
+          ∙ old k small beside
+          ∙ sym (behind_run (words_in banks) at values k inside_all late)
+      one_word k small (inr apart) (inl early) ends =
+          ap (λ b. get_or b (k % BANK) 0) (get_or-set_other banks (at / BANK) (k / BANK) (with_words bank (at % BANK) values) [] apart)
+          ∙ sym (read words banks k of small)
+          ∙ sym (before_run (words_in banks) at values k inside_all early)
+      one_word k small (inr apart) (inr from) (inl to) = absurd (apart (omega (arith, from, to, within)))
+      one_word k small (inr apart) (inr from) (inr late) =
+          ap (λ b. get_or b (k % BANK) 0) (get_or-set_other banks (at / BANK) (k / BANK) (with_words bank (at % BANK) values) [] apart)
+          ∙ sym (read words banks k of small)
+          ∙ sym (behind_run (words_in banks) at values k inside_all late)
 
 -- the first k banks of so many words, all of them 0
 pub record ClearTo (words : ℕ) (banks : List (List ℕ)) (k : ℕ) : Type 0 where

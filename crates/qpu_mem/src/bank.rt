@@ -1,5 +1,6 @@
 //! The banks that memory is kept in.
-ghost use Rattle.std.specs.Prelude.{◌≡◌, ◌<◌, ◌≤◌, drop, length, take, replicate, slice_index, slice_set, IfOk};
+ghost use Rattle.std.specs.Prelude.{◌≡◌, ℕ, ◌<◌, ◌≤◌, ◌+◌, ◌^◌, drop, length, take, replicate, slice_index, slice_set, IfOk};
+ghost use Rattle.qpu_bytes.specs.Elements.{words_from, with_words};
 ghost use Rattle.qpu_mem.specs.Banks.{words_in, IsBanked};
 ghost use Rattle.qpu_mem.specs.declared.memory.TheConstants.{GROUP};
 
@@ -22,6 +23,13 @@ impl Model for Bank {
     ghost Value = { List ℕ };
 
     ghost view = { λ bank. bank.words.items };
+}
+
+/// Tells that words have 32 bits.
+fn fit(words: &[u32])
+    ensures { (i : ℕ) → slice_index words.now i < 2 ^ 32 }
+{
+    let _words = words;
 }
 
 impl Bank {
@@ -48,6 +56,26 @@ impl Bank {
         ensures { self.new ≡ slice_set self.old at value }
     {
         self.words[at] = value;
+    }
+
+    /// Copies the words from an index on into a slice.
+    pub(crate) fn read(&self, at: usize, out: &mut [u32])
+        requires { at + length out.old ≤ length self.now }
+        ensures words { out.new ≡ words_from self.now at (length out.old) }
+        ensures small { (i : ℕ) → slice_index self.now i < 2 ^ 32 }
+    {
+        fit(&self.words);
+        out.copy_from_slice(&self.words[at..at + out.len()]);
+    }
+
+    /// Replaces the words from an index on by those of a slice.
+    pub(crate) fn write(&mut self, at: usize, words: &[u32])
+        requires { at + length words.now ≤ length self.old }
+        ensures words { self.new ≡ with_words self.old at words.now }
+        ensures small { (i : ℕ) → slice_index self.old i < 2 ^ 32 }
+    {
+        fit(&self.words);
+        self.words[at..at + words.len()].copy_from_slice(words);
     }
 
     /// The words from an index on, as many as a group has, or those that remain.

@@ -1,7 +1,8 @@
-ghost use Rattle.std.specs.Prelude.{◌≡◌, ◌<◌, ◌≤◌, ◌↔◌, ◌*◌, ◌/◌, drop, length, take, replicate, slice_get, slice_index, slice_set, IfOk, IsTrue, if◌then◌else◌, nat_lt};
+ghost use Rattle.std.specs.Prelude.{◌≡◌, ℕ, ◌<◌, ◌≤◌, ◌+◌, ◌%◌, ◌^◌, false, ◌↔◌, ◌*◌, ◌/◌, drop, length, take, replicate, slice_get, slice_index, slice_set, IfOk, IsTrue, if◌then◌else◌, nat_lt};
 ghost use Rattle.qpu_word.specs.declared.code.TheConstants.{MEMORY_WORDS};
-ghost use Rattle.qpu_bytes.specs.Elements.{is_place, element, with_part};
+ghost use Rattle.qpu_bytes.specs.Elements.{is_place, element, with_part, words_from, with_words};
 ghost use Rattle.qpu_mem.specs.declared.memory.TheConstants.{GROUP};
+ghost use Rattle.qpu_mem.specs.declared.bank.TheConstants.{BANK};
 
 use crate::bank::{BANK, Bank, clear_banks, copied_banks};
 use qpu_bytes::{Size, part_of, with_part_of};
@@ -108,6 +109,50 @@ impl Memory {
             return false;
         }
         self.set_at(at, value);
+        true
+    }
+
+    /// Whether so many words from an index on are there and stand in one bank.
+    fn is_in_bank(&self, at: u32, count: usize) -> bool
+        ensures inside { IsTrue result → at + count ≤ length self.now }
+        ensures bank { IsTrue result → at % BANK + count ≤ BANK }
+    {
+        let at = at as usize;
+        if count > BANK || at % BANK + count > BANK {
+            return false;
+        }
+        at + count <= self.len() as usize
+    }
+
+    /// Copies the words from an index on into a slice, where they are there and stand in one bank of
+    /// 4,096. False where they don't; then nothing changes.
+    pub fn read(&self, at: u32, out: &mut [u32]) -> bool
+        ensures there { IsTrue result → at + length out.old ≤ length self.now }
+        ensures done { IsTrue result → out.new ≡ words_from self.now at (length out.old) }
+        ensures small { IsTrue result → (i : ℕ) → i < length out.old → slice_index self.now (at + i) < 2 ^ 32 }
+        ensures not { result ≡ false → out.new ≡ out.old }
+    {
+        if out.is_empty() || !self.is_in_bank(at, out.len()) {
+            return false;
+        }
+        let at = at as usize;
+        self.banks[at / BANK].read(at % BANK, out);
+        true
+    }
+
+    /// Replaces the words from an index on by those of a slice, where they are there and stand in one
+    /// bank of 4,096. False where they don't; then nothing changes.
+    pub fn write(&mut self, at: u32, words: &[u32]) -> bool
+        ensures there { IsTrue result → at + length words.now ≤ length self.old }
+        ensures done { IsTrue result → self.new ≡ with_words self.old at words.now }
+        ensures small { IsTrue result → (i : ℕ) → i < length words.now → slice_index self.old (at + i) < 2 ^ 32 }
+        ensures not { result ≡ false → self.new ≡ self.old }
+    {
+        if words.is_empty() || !self.is_in_bank(at, words.len()) {
+            return false;
+        }
+        let at = at as usize;
+        self.banks[at / BANK].write(at % BANK, words);
         true
     }
 

@@ -1,19 +1,23 @@
 -- The move of a row, element by element.
-use Rattle.std.proofs.Common.{◌≡◌, ℕ, ◌+◌, ◌/◌, ◌<◌, ◌≤◌, List, [], ◌∷◌, length, get_or, take, refl, ap, sym, ◌∙◌, arith, Some, None, fold, length-set}
+use Rattle.std.proofs.Common.{◌≡◌, ℕ, ◌+◌, ◌/◌, ◌^◌, ◌<◌, ◌≤◌, List, [], ◌∷◌, length, get_or, take, refl, ap, sym, ◌∙◌, arith, Some, None, fold, length-set}
 use Rattle.std.specs.Prelude.{Bool, true, false, Option, IfSome, IsTrue, nat_lt, if◌then◌else◌}
 use Rattle.std.specs.List.{slice_get}
 use Rattle.std.proofs.lemmas.List.{take_all}
 use Rattle.std.proofs.lemmas.List.Sums.{fold_more}
 use Rattle.std.proofs.lemmas.Bool.Decides.{nat_tests}
 use Rattle.std.proofs.lemmas.Option.{slice_get-get_or}
-use Rattle.qpu_bytes.specs.Elements.{element, part, with_part}
+use Rattle.qpu_bytes.specs.Elements.{element, part, with_part, with_words, words_from}
+use Rattle.qpu_bytes.proofs.RunLemmas.{length_from}
 use Rattle.std.proofs.lemmas.List.FromFn.{get_or-map-range_with_len}
 use Rattle.qpu_dma.specs.declared.direction.Direction.{Direction}
 use Rattle.qpu_dma.specs.declared.direction.Direction.TheVariants.{Load as LoadOf, Store as StoreOf}
 use Rattle.qpu_dma.specs.declared.Pair.{Pair}
 use Rattle.qpu_dma.specs.Transfers.{TransferState, pair_at, row_pairs, fits}
 use Rattle.qpu_dma.specs.Moves.{carried, carried_one, after_row}
+use Rattle.qpu_dma.specs.declared.WordRow.{WordRow}
+use Rattle.qpu_dma.specs.Runs.{LiesInRun}
 use Rattle.qpu_dma.proofs.FitLemmas.{length-row_pairs}
+use Rattle.qpu_dma.proofs.CarriedLemmas.{row_carried}
 use Rattle.qpu_shared.specs.SharedState.{SharedState}
 use Rattle.qpu_shared.specs.Moves.{with_carried}
 
@@ -63,6 +67,35 @@ pub carried_long : (direction : Direction) (from into : List ℕ) (pairs : List 
 carried_long direction from into [] = refl
 carried_long direction from into (pair ∷ pairs) =
     carried_long direction from (carried_one direction from into pair) pairs ∙ length-set into _ _
+
+pub row_long : (direction : Direction) (h next : SharedState) (pairs : List Pair) → next ≡ with_carried direction h pairs → length next.memory ≡ length h.memory
+unfolding carried
+row_long LoadOf h next pairs is = ap (λ (s : SharedState). length s.memory) is
+row_long StoreOf h next pairs is = ap (λ (s : SharedState). length s.memory) is ∙ carried_long StoreOf h.vpm h.memory pairs
+
+pub row_pending : (direction : Direction) (h next : SharedState) (pairs : List Pair) → next ≡ with_carried direction h pairs → next.pending ≡ h.pending
+row_pending LoadOf h next pairs is = ap (λ (s : SharedState). s.pending) is
+row_pending StoreOf h next pairs is = ap (λ (s : SharedState). s.pending) is
+
+-- a row of words that stand side by side is carried at once
+pub run_loaded : (h : SharedState) (t : TransferState) (row : WordRow) (count : ℕ) (words : List ℕ) → count ≡ t.row_length → LiesInRun t t.moved row
+    → words ≡ words_from h.memory row.at count → row.at + count ≤ length h.memory → row.place + t.row_length ≤ length h.vpm
+    → ((i : ℕ) → i < count → get_or h.memory (row.at + i) 0 < 2 ^ 32) → ((i : ℕ) → get_or h.vpm i 0 < 2 ^ 32)
+    → record h { vpm = with_words h.vpm row.place words } ≡ with_carried LoadOf h (row_pairs t t.moved)
+run_loaded h t row count words same lies is there inside small old =
+    ap (λ (vpm : List ℕ). record h { vpm = vpm })
+    (ap (with_words h.vpm row.place) (is ∙ ap (words_from h.memory row.at) same)
+    ∙ sym (row_carried LoadOf t t.moved row h.memory h.vpm lies (λ i low. small i (omega (arith, low, same))) (λ i low. old (row.place + i)) (omega (arith, there, same)) inside))
+
+pub run_stored : (h : SharedState) (t : TransferState) (row : WordRow) (count : ℕ) (words : List ℕ) → count ≡ t.row_length → LiesInRun t t.moved row
+    → words ≡ words_from h.vpm row.place count → row.at + length words ≤ length h.memory → row.place + t.row_length ≤ length h.vpm
+    → ((i : ℕ) → i < length words → get_or h.memory (row.at + i) 0 < 2 ^ 32) → ((i : ℕ) → get_or h.vpm i 0 < 2 ^ 32)
+    → record h { memory = with_words h.memory row.at words } ≡ with_carried StoreOf h (row_pairs t t.moved)
+run_stored h t row count words same lies is there inside small old =
+    let long : length words ≡ t.row_length = ap length is ∙ length_from h.vpm row.place count (omega (arith, same, inside)) ∙ same in
+    ap (λ (memory : List ℕ). record h { memory = memory })
+    (ap (with_words h.memory row.at) (is ∙ ap (words_from h.vpm row.place) same)
+    ∙ sym (row_carried StoreOf t t.moved row h.vpm h.memory lies (λ i low. old (row.place + i)) (λ i low. small i (omega (arith, low, long))) inside (omega (arith, there, long))))
 
 -- a word inside memory is there
 pub no_word : (memory : List ℕ) (at : ℕ) → at < length memory → slice_get memory at ≡ None → ⊥

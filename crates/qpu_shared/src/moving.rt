@@ -1,5 +1,5 @@
 //! The moves of pending transfers and look-ups.
-ghost use Rattle.std.specs.Prelude.{◌≡◌, ◌<◌, ◌/◌, ◌∷◌, [], length, map, slice_index, option_map, IsTrue, IsSome};
+ghost use Rattle.std.specs.Prelude.{◌≡◌, ◌<◌, ◌/◌, ◌∷◌, [], false, length, map, slice_index, option_map, IsTrue, IsSome};
 ghost use Rattle.qpu_word.specs.declared.code.TheConstants.{VPM_BYTES};
 ghost use Rattle.qpu_bytes.specs.Elements.{is_place};
 ghost use Rattle.qpu_dma.specs.declared.direction.Direction.TheVariants.{Load as LoadOf, Store as StoreOf};
@@ -15,6 +15,9 @@ use crate::shared::Shared;
 use qpu_dma::{Direction, Pair, Transfer};
 use qpu_word::code::TMU_UNITS;
 use qpu_word::{LANES, Lanes};
+
+/// The most words of a row.
+const MOST_WORDS: usize = 128;
 
 impl Pending {
     /// The transfer of a direction.
@@ -87,16 +90,53 @@ impl Shared {
         }
     }
 
+    /// Carries the elements of the next row of a transfer, which fits, one after another.
+    fn carry_each(&mut self, direction: Direction, transfer: Transfer)
+        requires { IsTrue (fits transfer (length self.old.memory)) }
+        ensures { self.new ≡ with_carried direction self.old (row_pairs transfer transfer.moved) }
+    {
+        let row = transfer.moved();
+        for j in 0..transfer.length() {
+            self.carry(direction, transfer.pair(row, j));
+        }
+    }
+
+    /// Carries the words of the next row of a transfer at once, where they stand side by side, in memory
+    /// in one bank. False where they don't; then nothing changes.
+    fn carry_run(&mut self, direction: Direction, transfer: &Transfer) -> bool
+        ensures carried { IsTrue result → self.new ≡ with_carried direction self.old (row_pairs transfer.now transfer.now.moved) }
+        ensures not { result ≡ false → self.new ≡ self.old }
+    {
+        let Some(row) = transfer.word_row() else {
+            return false;
+        };
+        let mut words = [0; MOST_WORDS];
+        let words = &mut words[..transfer.length() as usize];
+        match direction {
+            Direction::Load => {
+                if !self.memory.read(row.at, words) {
+                    return false;
+                }
+                self.vpm.write(row.place, words);
+                true
+            }
+            Direction::Store => {
+                self.vpm.read(row.place, words);
+                self.memory.write(row.at, words)
+            }
+        }
+    }
+
     /// Carries the elements of the next row of a transfer, which fits.
+    #[tactic(auto, using(crate::proofs::MoveLemmas::row_long, crate::proofs::MoveLemmas::row_pending))]
     fn carry_row(&mut self, direction: Direction, transfer: Transfer)
         requires { IsTrue (fits transfer (length self.old.memory)) }
         ensures carried { self.new ≡ with_carried direction self.old (row_pairs transfer transfer.moved) }
         ensures long { length self.new.memory ≡ length self.old.memory }
         ensures pending { self.new.pending ≡ self.old.pending }
     {
-        let row = transfer.moved();
-        for j in 0..transfer.length() {
-            self.carry(direction, transfer.pair(row, j));
+        if !self.carry_run(direction, &transfer) {
+            self.carry_each(direction, transfer);
         }
     }
 

@@ -1,6 +1,6 @@
-ghost use Rattle.std.specs.Prelude.{◌≡◌, ◌<◌, ◌+◌, ◌*◌, length, replicate, slice_index, slice_set, take, drop, IsTrue};
+ghost use Rattle.std.specs.Prelude.{◌≡◌, ℕ, ◌<◌, ◌≤◌, ◌+◌, ◌*◌, ◌^◌, length, replicate, slice_index, slice_set, take, drop, IsTrue};
 ghost use Rattle.qpu_word.specs.declared.code.TheConstants.{VPM_ROWS, VPM_COLUMNS, VPM_BYTES};
-ghost use Rattle.qpu_bytes.specs.Elements.{is_place, part, with_part};
+ghost use Rattle.qpu_bytes.specs.Elements.{is_place, part, with_part, words_from, with_words};
 ghost use Rattle.qpu_vpm.specs.Cells.{vector_places};
 ghost use Rattle.qpu_vpm.specs.Values.{vpm_values, with_values};
 
@@ -75,6 +75,28 @@ impl Vpm {
         ensures long { length self.new ≡ VPM_ROWS * VPM_COLUMNS }
     {
         self.words[(VPM_COLUMNS * row + column) as usize] = value;
+    }
+
+    /// Copies the words from an index on, below 1,024, into a slice.
+    pub fn read(&self, at: u32, out: &mut [u32])
+        requires { at + length out.old ≤ VPM_ROWS * VPM_COLUMNS }
+        ensures words { out.new ≡ words_from self.now at (length out.old) }
+        ensures small { (i : ℕ) → slice_index self.now i < 2 ^ 32 }
+        ensures long { length self.now ≡ VPM_ROWS * VPM_COLUMNS }
+    {
+        let at = at as usize;
+        out.copy_from_slice(&self.words[at..at + out.len()]);
+    }
+
+    /// Replaces the words from an index on, below 1,024, by those of a slice.
+    pub fn write(&mut self, at: u32, words: &[u32])
+        requires { at + length words.now ≤ VPM_ROWS * VPM_COLUMNS }
+        ensures words { self.new ≡ with_words self.old at words.now }
+        ensures small { (i : ℕ) → slice_index self.old i < 2 ^ 32 }
+        ensures long { length self.old ≡ VPM_ROWS * VPM_COLUMNS }
+    {
+        let at = at as usize;
+        self.words[at..at + words.len()].copy_from_slice(words);
     }
 
     /// The element at a byte place, below 4,096 and a multiple of the size, extended with zeros.
