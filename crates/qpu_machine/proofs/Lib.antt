@@ -16,6 +16,8 @@ pub mod LocalLemmas
 pub mod PendingLemmas
 pub mod BoundLemmas
 pub mod SerialLemmas
+pub mod OthersLemmas
+pub mod AwayLemmas
 pub mod TrailLemmas
 pub mod RunLaw
 pub mod AtRestLaw

@@ -12,6 +12,7 @@ pub mod Journal
 pub mod Still
 pub mod Awaited
 pub mod Local
+pub mod Others
 pub mod Bound
 pub mod Gains
 pub mod Opening

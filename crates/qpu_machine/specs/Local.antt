@@ -38,3 +38,8 @@ TookLocal false words limit p after = (is_local_next words limit p ≡ false) ×
 -- a processor is what so many local steps leave of a machine's processor q, which was started
 abbrev pub IsOwnAfter : MachineState → ℕ → ProcessorState → ℕ → Type 0
 IsOwnAfter m q p n = IsSomeAnd (processor_of m q) (λ before. LocalSteps (words_of m q) m.limit before n p)
+
+-- it is what a whole stretch leaves: after those steps none is left
+pub record IsStretched (m : MachineState) (q : ℕ) (p : ProcessorState) (n : ℕ) : Type 0 where
+  pub own : IsOwnAfter m q p n
+  pub stops : is_local_next (words_of m q) m.limit p ≡ false

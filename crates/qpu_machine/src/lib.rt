@@ -35,4 +35,5 @@ pub use laws::{
 pub use machine::Machine;
 pub use runs::{JournalRuns, Runs};
 pub use start::Start;
+pub use stepping::program_at;
 pub use stretching::stretch;

@@ -1,5 +1,5 @@
 //! The machine as one value.
-ghost use Rattle.std.specs.Prelude.{◌≡◌, length, option_map};
+ghost use Rattle.std.specs.Prelude.{◌≡◌, ◌<◌, length, option_map, slice_index};
 ghost use Rattle.qpu_machine.specs.Machine.{processor_of};
 ghost use Rattle.qpu_machine.specs.Sound.{IsSoundMachine};
 
@@ -68,6 +68,14 @@ impl Machine {
         ensures { result.now.list.items ≡ self.now.state.programs }
     {
         &self.programs
+    }
+
+    /// The index of the program that processor q, below 12, was started with.
+    pub fn program_of(&self, q: u32) -> u32
+        requires { q < 12 }
+        ensures { result ≡ slice_index self.now.state.program_of q }
+    {
+        self.program_of[q as usize]
     }
 
     /// Processor q; none exactly where it wasn't started.

@@ -14,7 +14,6 @@ use crate::actor::Actor;
 use crate::conclusion::Ending;
 use crate::journal::Journal;
 use crate::machine::{Machine, PROCESSORS};
-use crate::run_list::RunList;
 use crate::stepping::program_at;
 use crate::stretching::stretch;
 use qpu_word::{NoMemory, code};
@@ -49,47 +48,52 @@ impl Machine {
         stretch(processor, program, self.limit)
     }
 
-    /// Takes the local words of processor q.
-    fn run_local(&mut self, q: u32, journal: &mut RunList) -> Result<(), NoMemory>
-        requires { steps_in journal.old.runs + steps_left self.old.state < 2 ^ 64 }
-        ensures ok { OnOk result (Gained journal.old.runs journal.new.runs (λ s. Stretch q self.old.state s self.new.state)) }
-        ensures err { OnErr result (Gained journal.old.runs journal.new.runs (λ s. After self.old.state s self.new.state)) }
-        ensures room { steps_in journal.new.runs + steps_left self.new.state ≤ steps_in journal.old.runs + steps_left self.old.state }
+    /// Takes the local words of processor q: a whole stretch. The one error is want of memory; the
+    /// machine is then the one after the steps that the journal has gained. The counts of the journal and
+    /// the steps that the machine has left sum to less than 2^64.
+    pub fn run_local(&mut self, q: u32, journal: &mut Journal) -> Result<(), NoMemory>
+        requires { steps_in journal.old + steps_left self.old.state < 2 ^ 64 }
+        ensures ok { OnOk result (Gained journal.old journal.new (λ s. Stretch q self.old.state s self.new.state)) }
+        ensures err { OnErr result (Gained journal.old journal.new (λ s. After self.old.state s self.new.state)) }
+        ensures room { steps_in journal.new + steps_left self.new.state ≤ steps_in journal.old + steps_left self.old.state }
         ensures starts { self.new.starts ≡ self.old.starts }
     {
         self.keeps();
-        journal.make_room()?;
+        journal.list.make_room()?;
         let steps = self.stretch_own(q);
         if steps == 0 {
             return Ok(());
         }
-        journal.add(Actor::Exec(q), steps);
+        journal.list.add(Actor::Exec(q), steps);
         Ok(())
     }
 
     /// Takes one step of an actor, where it has one.
-    fn try_step(&mut self, actor: Actor, journal: &mut RunList) -> Result<(), NoMemory>
-        requires { steps_in journal.old.runs + steps_left self.old.state < 2 ^ 64 }
-        ensures ok { OnOk result (Gained journal.old.runs journal.new.runs (λ s. Tried actor self.old.state s self.new.state)) }
-        ensures err { OnErr result (Gained journal.old.runs journal.new.runs (λ s. After self.old.state s self.new.state)) }
-        ensures room { steps_in journal.new.runs + steps_left self.new.state ≤ steps_in journal.old.runs + steps_left self.old.state }
+    fn try_step(&mut self, actor: Actor, journal: &mut Journal) -> Result<(), NoMemory>
+        requires { steps_in journal.old + steps_left self.old.state < 2 ^ 64 }
+        ensures ok { OnOk result (Gained journal.old journal.new (λ s. Tried actor self.old.state s self.new.state)) }
+        ensures err { OnErr result (Gained journal.old journal.new (λ s. After self.old.state s self.new.state)) }
+        ensures room { steps_in journal.new + steps_left self.new.state ≤ steps_in journal.old + steps_left self.old.state }
         ensures starts { self.new.starts ≡ self.old.starts }
     {
         self.keeps();
-        journal.make_room()?;
+        journal.list.make_room()?;
         if !self.step(actor) {
             return Ok(());
         }
-        journal.add(actor, 1);
+        journal.list.add(actor, 1);
         Ok(())
     }
 
-    /// Takes one step of each thing that processor q tries, where it has one.
-    fn run_tries(&mut self, q: u32, journal: &mut RunList) -> Result<(), NoMemory>
-        requires { steps_in journal.old.runs + steps_left self.old.state < 2 ^ 64 }
-        ensures ok { OnOk result (Gained journal.old.runs journal.new.runs (λ s. InTurn (tries_of q) self.old.state s self.new.state)) }
-        ensures err { OnErr result (Gained journal.old.runs journal.new.runs (λ s. After self.old.state s self.new.state)) }
-        ensures room { steps_in journal.new.runs + steps_left self.new.state ≤ steps_in journal.old.runs + steps_left self.old.state }
+    /// Takes one step of each thing that processor q tries after its local words, where it has one: its
+    /// next shared word, a row of its load, one of its store, and a look-up of each of its units. The one
+    /// error is want of memory; the machine is then the one after the steps that the journal has gained.
+    /// The counts of the journal and the steps that the machine has left sum to less than 2^64.
+    pub fn run_tries(&mut self, q: u32, journal: &mut Journal) -> Result<(), NoMemory>
+        requires { steps_in journal.old + steps_left self.old.state < 2 ^ 64 }
+        ensures ok { OnOk result (Gained journal.old journal.new (λ s. InTurn (tries_of q) self.old.state s self.new.state)) }
+        ensures err { OnErr result (Gained journal.old journal.new (λ s. After self.old.state s self.new.state)) }
+        ensures room { steps_in journal.new + steps_left self.new.state ≤ steps_in journal.old + steps_left self.old.state }
         ensures starts { self.new.starts ≡ self.old.starts }
     {
         let actors = tries(q);
@@ -100,11 +104,11 @@ impl Machine {
     }
 
     /// What processor q does in a round.
-    fn turn(&mut self, q: u32, journal: &mut RunList) -> Result<(), NoMemory>
-        requires { steps_in journal.old.runs + steps_left self.old.state < 2 ^ 64 }
-        ensures ok { OnOk result (Gained journal.old.runs journal.new.runs (λ s. Turned q self.old.state s self.new.state)) }
-        ensures err { OnErr result (Gained journal.old.runs journal.new.runs (λ s. After self.old.state s self.new.state)) }
-        ensures room { steps_in journal.new.runs + steps_left self.new.state ≤ steps_in journal.old.runs + steps_left self.old.state }
+    fn turn(&mut self, q: u32, journal: &mut Journal) -> Result<(), NoMemory>
+        requires { steps_in journal.old + steps_left self.old.state < 2 ^ 64 }
+        ensures ok { OnOk result (Gained journal.old journal.new (λ s. Turned q self.old.state s self.new.state)) }
+        ensures err { OnErr result (Gained journal.old journal.new (λ s. After self.old.state s self.new.state)) }
+        ensures room { steps_in journal.new + steps_left self.new.state ≤ steps_in journal.old + steps_left self.old.state }
         ensures starts { self.new.starts ≡ self.old.starts }
     {
         self.run_local(q, journal)?;
@@ -112,11 +116,11 @@ impl Machine {
     }
 
     /// One round: each processor in turn. Where the machine isn't final it takes a step.
-    fn round(&mut self, journal: &mut RunList) -> Result<(), NoMemory>
-        requires { steps_in journal.old.runs + steps_left self.old.state < 2 ^ 64 }
-        ensures ok { OnOk result (Gained journal.old.runs journal.new.runs (λ s. Round 0 self.old.state s self.new.state)) }
-        ensures err { OnErr result (Gained journal.old.runs journal.new.runs (λ s. After self.old.state s self.new.state)) }
-        ensures room { steps_in journal.new.runs + steps_left self.new.state ≤ steps_in journal.old.runs + steps_left self.old.state }
+    fn round(&mut self, journal: &mut Journal) -> Result<(), NoMemory>
+        requires { steps_in journal.old + steps_left self.old.state < 2 ^ 64 }
+        ensures ok { OnOk result (Gained journal.old journal.new (λ s. Round 0 self.old.state s self.new.state)) }
+        ensures err { OnErr result (Gained journal.old journal.new (λ s. After self.old.state s self.new.state)) }
+        ensures room { steps_in journal.new + steps_left self.new.state ≤ steps_in journal.old + steps_left self.old.state }
         ensures moves { OnOk result (IsFinal self.old.state ⊎ (steps_left self.new.state < steps_left self.old.state)) }
         ensures starts { self.new.starts ≡ self.old.starts }
     {
@@ -155,7 +159,7 @@ impl Machine {
             if let Some(ending) = self.ending() {
                 return Ok(ending);
             }
-            self.round(&mut journal.list)?;
+            self.round(journal)?;
         }
     }
 }

@@ -96,7 +96,7 @@ pub(crate) fn take_word(p: &mut Processor, program: &Checked, shared: &mut Share
 }
 
 /// A program of the list.
-pub(crate) fn program_at(programs: &Programs, at: u32) -> &Checked
+pub fn program_at(programs: &Programs, at: u32) -> &Checked
     requires { at < length programs.now.list.items }
     ensures { result.now ≡ slice_index_or programs.now.list.items at [] }
 {

@@ -3,19 +3,19 @@ use Rattle.qpu_machine.proofs.SerialLemmas.{nothing_gained, gained_then, gained_
 use Rattle.qpu_machine.proofs.machine.Machine.round.Goals as goal
 
 pub loop-q-init : goal.loop-q-init
-loop-q-init c = record { gained = nothing_gained c.args.journal.now.runs _ (round_begun c.args.self.now.state); room = omega arith; starts = refl }
+loop-q-init c = record { gained = nothing_gained c.args.journal.now _ (round_begun c.args.self.now.state); room = omega arith; starts = refl }
 
 pub returns-in_err-turn-clause-err : goal.returns-in_err-turn-clause-err
 returns-in_err-turn-clause-err c =
     err_holds _ _
-    (gained_then c.args.journal.now.runs c.loop-q.journal.runs c.turn.new.journal.runs _ _ _ c.loop-q.invariant.gained c.in_err-turn.ensures.err (λ s t far after. after_then far.after after))
+    (gained_then c.args.journal.now c.loop-q.journal c.turn.new.journal _ _ _ c.loop-q.invariant.gained c.in_err-turn.ensures.err (λ s t far after. after_then far.after after))
 
 pub loop-q-preserved : goal.loop-q-preserved
 loop-q-preserved c =
     let room = c.in_ok-turn.ensures.room in
     record {
       gained =
-          gained_then c.args.journal.now.runs c.loop-q.journal.runs c.turn.new.journal.runs _ _ _ c.loop-q.invariant.gained c.in_ok-turn.ensures.ok
+          gained_then c.args.journal.now c.loop-q.journal c.turn.new.journal _ _ _ c.loop-q.invariant.gained c.in_ok-turn.ensures.ok
           (λ s t far turned. round_more c.loop-q.q far (omega (arith, c.loop-q-test.true)) turned);
       room = omega (arith, c.loop-q.invariant.room, room);
       starts = c.in_ok-turn.ensures.starts ∙ c.loop-q.invariant.starts;
@@ -24,7 +24,7 @@ loop-q-preserved c =
 pub returns-clause-ok : goal.returns-clause-ok
 returns-clause-ok c =
     let last : c.loop-q.q ≡ 12 = omega (arith, c.loop-q-test.false) in
-    gained_same c.args.journal.now.runs c.loop-q.journal.runs _ _ c.loop-q.invariant.gained (λ s far. round_over c.loop-q.q far last)
+    gained_same c.args.journal.now c.loop-q.journal _ _ c.loop-q.invariant.gained (λ s far. round_over c.loop-q.q far last)
 
 pub returns-clause-moves : goal.returns-clause-moves
 returns-clause-moves c =

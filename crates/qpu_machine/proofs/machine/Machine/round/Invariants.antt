@@ -7,7 +7,7 @@ use Rattle.qpu_machine.proofs.machine.Machine.round.Given as goal
 
 abbrev pub invariant-loop-q : goal.invariant-loop-q
 invariant-loop-q l = record {
-  gained : Gained l.fn.journal.runs l.journal.runs (λ s. RoundSoFar l.fn.self.state l.q s l.self.state);
-  room : steps_in l.journal.runs + steps_left l.self.state ≤ steps_in l.fn.journal.runs + steps_left l.fn.self.state;
+  gained : Gained l.fn.journal l.journal (λ s. RoundSoFar l.fn.self.state l.q s l.self.state);
+  room : steps_in l.journal + steps_left l.self.state ≤ steps_in l.fn.journal + steps_left l.fn.self.state;
   starts : l.self.starts ≡ l.fn.self.starts;
 }

@@ -7,8 +7,8 @@ use Rattle.qpu_machine.proofs.machine.Machine.run_serial.Given as goal
 
 abbrev pub invariant-loop-ending : goal.invariant-loop-ending
 invariant-loop-ending l = record {
-  gained : Gained l.fn.journal l.journal-inside.list.runs (λ s. SerialSoFar l.fn.self.state s l.self.state);
-  room : steps_in l.journal-inside.list.runs + steps_left l.self.state ≤ steps_in l.fn.journal + steps_left l.fn.self.state;
+  gained : Gained l.fn.journal l.journal (λ s. SerialSoFar l.fn.self.state s l.self.state);
+  room : steps_in l.journal + steps_left l.self.state ≤ steps_in l.fn.journal + steps_left l.fn.self.state;
   starts : l.self.starts ≡ l.fn.self.starts;
 }
 

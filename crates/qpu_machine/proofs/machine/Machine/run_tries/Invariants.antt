@@ -9,7 +9,7 @@ use Rattle.qpu_machine.proofs.machine.Machine.run_tries.Given as goal
 abbrev pub invariant-loop-actor : goal.invariant-loop-actor
 invariant-loop-actor l = record {
   items : l.actor-items ≡ tries_of l.q;
-  gained : Gained l.fn.journal.runs l.journal.runs (λ s. InTurn (take l.actor-index (tries_of l.q)) l.fn.self.state s l.self.state);
-  room : steps_in l.journal.runs + steps_left l.self.state ≤ steps_in l.fn.journal.runs + steps_left l.fn.self.state;
+  gained : Gained l.fn.journal l.journal (λ s. InTurn (take l.actor-index (tries_of l.q)) l.fn.self.state s l.self.state);
+  room : steps_in l.journal + steps_left l.self.state ≤ steps_in l.fn.journal + steps_left l.fn.self.state;
   starts : l.self.starts ≡ l.fn.self.starts;
 }

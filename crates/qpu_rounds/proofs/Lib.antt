@@ -1,0 +1,3 @@
+pub mod AwayLemmas
+pub mod RunLemmas
+pub mod SentLemmas
