@@ -7,6 +7,7 @@
 #![tactic(auto)]
 
 mod filling;
+mod gate;
 mod gathering;
 mod mem;
 mod pieces;
@@ -17,6 +18,7 @@ mod stream;
 mod waiting;
 mod writing;
 
+pub use gate::{Gate, OpenGate};
 pub use gathering::Gathering;
 pub use mem::{MemSink, MemSource};
 pub use pieces::{Piece, put_all};

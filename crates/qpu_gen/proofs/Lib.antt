@@ -1,0 +1,4 @@
+pub mod DataLines
+pub mod Lengths
+pub mod Reading
+pub mod Writing
