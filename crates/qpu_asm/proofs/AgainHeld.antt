@@ -1,23 +1,21 @@
 -- What the word of an instruction of both units holds agrees with what its line names.
 use Rattle.std.proofs.Common.{◌≡◌, ℕ, Bool, true, false, refl, sym, ap, ◌∙◌, arith}
 use Rattle.std.proofs.lemmas.Bool.Decides.{nat_tests}
-use Rattle.std.specs.Prelude.{◌==◌, ◌&&◌, ◌||◌, not, nat_lt, nat_le, Option, Some, None, is_some, IfSome, if◌then◌else◌}
+use Rattle.std.specs.Prelude.{◌==◌, ◌&&◌, ◌||◌, not, nat_lt, nat_le, Some, None, if◌then◌else◌}
 use Rattle.qpu_word.specs.declared.name.Place.{Place}
 use Rattle.qpu_word.specs.declared.name.Place.TheVariants.{Both, FileA as InA, FileB as InB}
 use Rattle.qpu_word.specs.Canonical.{file_matters}
 use Rattle.qpu_line.specs.declared.operand.Operand.{Operand}
 use Rattle.qpu_line.specs.declared.operand.Operand.TheVariants.{Accumulator, FileA, FileB, Small}
-use Rattle.qpu_line.specs.declared.part.Part.{Part as UnitDoes}
 use Rattle.qpu_line.specs.declared.units.Signal.{Signal}
 use Rattle.qpu_line.specs.declared.units.Signal.TheVariants.{Nothing, End, Load0, Load1, Rotate}
 use Rattle.qpu_line.specs.declared.slots.UnitFields.{UnitFields}
 use Rattle.qpu_line.specs.Targets.{target_at_address, address_of, in_file_a, in_file_b}
-use Rattle.qpu_line.specs.Units.{part_uses, signal_of, other_read, op_of, cond_of, first_of, second_of, mux_of}
+use Rattle.qpu_line.specs.Units.{signal_of, other_read}
 use Rattle.qpu_line.specs.Worded.{IsTarget}
-use Rattle.qpu_line.specs.Both.{IsOperand, IsPart}
+use Rattle.qpu_line.specs.Both.{IsOperand}
 use Rattle.qpu_line.specs.Named.{IsNamedOperand, is_turned}
-use Rattle.qpu_asm.specs.reader.Judging.{cross}
-use Rattle.qpu_asm.specs.reader.Meanings.{address_a, address_b, reads_by}
+use Rattle.qpu_asm.specs.Clashes.{cross}
 use Rattle.qpu_asm.proofs.AgainMarks.{Given}
 use Rattle.qpu_asm.proofs.AgainSources.{Holds}
 
@@ -134,37 +132,6 @@ other_held named address n e = by named (address == 39) e
     by true b e = absurd cc
     by false true e = absurd cc
     by false false e = (refl, cc)
-
-mux_a : (o : Operand) (s : UnitFields) → IsOperand s o → (mux_of o == 6) ≡ false → is_some (address_a o) ≡ false
-mux_a (Accumulator n) s is e = refl
-mux_a (FileA n u) s is e = cc
-mux_a (FileB n) s is e = refl
-mux_a (Small code) s is e = refl
-
-mux_b : (o : Operand) (s : UnitFields) → IsOperand s o → (mux_of o == 7) ≡ false → is_some (address_b o) ≡ false
-mux_b (Accumulator n) s is e = refl
-mux_b (FileA n u) s is e = refl
-mux_b (FileB n) s is e = cc
-mux_b (Small code) s is e = refl
-
-neither : (idle x y : Bool) → idle ≡ false → (not idle && (x || y)) ≡ false → (x ≡ false) × (y ≡ false)
-neither idle true y e h = let no : true ≡ false = rw e at h in absurd cc
-neither idle false true e h = let no : true ≡ false = rw e at h in absurd cc
-neither idle false false e h = (refl, refl)
-
-pub reads_a : (s : UnitFields) (in_b : Bool) (o : Option UnitDoes) → IfSome o (IsPart s in_b) → part_uses (op_of o) (cond_of o) (first_of o) (second_of o) 6 ≡ false
-    → reads_by address_a o ≡ false
-reads_a s in_b None is e = refl
-reads_a s in_b (Some p) is e =
-    let n = neither ((p.op == 0) || (p.cond == 0)) (mux_of p.a == 6) (mux_of p.b == 6) is.acts e in
-    rw (mux_a p.a s is.first n.0, mux_a p.b s is.second n.1) refl
-
-pub reads_b : (s : UnitFields) (in_b : Bool) (o : Option UnitDoes) → IfSome o (IsPart s in_b) → part_uses (op_of o) (cond_of o) (first_of o) (second_of o) 7 ≡ false
-    → reads_by address_b o ≡ false
-reads_b s in_b None is e = refl
-reads_b s in_b (Some p) is e =
-    let n = neither ((p.op == 0) || (p.cond == 0)) (mux_of p.a == 7) (mux_of p.b == 7) is.acts e in
-    rw (mux_b p.a s is.first n.0, mux_b p.b s is.second n.1) refl
 
 pub both_false : (x y : Bool) → (x || y) ≡ false → (x ≡ false) × (y ≡ false)
 both_false true y h = absurd cc

@@ -13,7 +13,8 @@ use Rattle.qpu_asm.specs.declared.mark.What.TheVariants as what
 use Rattle.qpu_asm.specs.declared.mark.Mark.{Mark}
 use Rattle.qpu_asm.specs.declared.judge.Judged.{Judged}
 use Rattle.qpu_asm.specs.declared.judge.Judged.TheVariants.{Operands, TwoImmediates, TwoReads, Label, Range}
-use Rattle.qpu_asm.specs.reader.Judging.{is_wrong, cross, not_beside, other_immediate, other_read, clashes, is_faulty, first_faulty, fault_of_kind, line_fault}
+use Rattle.qpu_asm.specs.Clashes.{is_wrong, cross, not_beside, other_immediate, other_read, clashes}
+use Rattle.qpu_asm.specs.reader.Judging.{is_faulty, first_faulty, fault_of_kind, line_fault}
 use Rattle.qpu_asm.specs.reader.Marks.{mark, mark_if, part_marks, marks_of}
 
 -- what a line's word holds

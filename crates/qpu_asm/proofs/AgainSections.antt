@@ -1,5 +1,5 @@
 -- A line of parts between signs `;` is cut into its sections, and these are read as parts.
-use Rattle.std.proofs.Common.{◌≡◌, ℕ, Bool, true, false, List, [], ◌∷◌, ◌++◌, append_assoc, refl, sym, ap, ◌∙◌, subst}
+use Rattle.std.proofs.Common.{◌≡◌, ℕ, Bool, true, false, List, [], ◌∷◌, ◌++◌, append_assoc, refl, ap, ◌∙◌}
 use Rattle.std.proofs.lemmas.List.{append-nil}
 use Rattle.std.specs.Prelude.{fold, Option, None, Result, Ok, if◌then◌else◌}
 use Rattle.std.specs.Option.{option_or}
@@ -9,7 +9,6 @@ use Rattle.qpu_line.specs.declared.instruction.Instruction.{Instruction}
 use Rattle.qpu_line.specs.declared.name.Name.{Name}
 use Rattle.qpu_line.specs.declared.symbol.Symbol.{Symbol}
 use Rattle.qpu_line.specs.declared.symbol.Symbol.TheVariants as symbol
-use Rattle.qpu_line.specs.Lines.{Bit, symbols_of}
 use Rattle.qpu_asm.specs.declared.placed.Placed.{Placed}
 use Rattle.qpu_asm.specs.declared.part.Part.{Part}
 use Rattle.qpu_asm.specs.declared.line.Line.{Line}
@@ -17,15 +16,17 @@ use Rattle.qpu_asm.specs.declared.line.Line.TheVariants.{Says}
 use Rattle.qpu_asm.specs.Roles.{is_mnemonic}
 use Rattle.qpu_asm.specs.reader.Parts.{part_by}
 use Rattle.qpu_asm.specs.reader.Orders.{due}
-use Rattle.qpu_asm.specs.reader.Pieces.{is_dot}
-use Rattle.qpu_asm.specs.reader.SectionTokens.{SectionTokens}
-use Rattle.qpu_asm.specs.reader.Sections.{is_semicolon, Cutting, cut_on, put_section, sections_of, unknown_in, unknown_symbol, first_of, part_after_symbol, part_after, parts_on, parts_of}
+use Rattle.qpu_asm.specs.Signs.{is_dot}
+use Rattle.qpu_asm.specs.SectionTokens.{SectionTokens}
+use Rattle.qpu_asm.specs.Signs.{is_semicolon}
+use Rattle.qpu_asm.specs.reader.Sections.{Cutting, cut_on, put_section, sections_of, unknown_in, unknown_symbol, first_of, part_after_symbol, part_after, parts_on, parts_of}
 use Rattle.qpu_asm.specs.reader.Marks.{marks_of}
 use Rattle.qpu_asm.specs.reader.Judging.{line_fault}
 use Rattle.qpu_asm.specs.reader.Meanings.{meaning}
 use Rattle.qpu_asm.specs.reader.LinesRead.{instruction_line, read_line}
-use Rattle.qpu_asm.specs.Spells.{behind_first, is_colon}
-use Rattle.qpu_asm.proofs.AgainSpelled.{Spelled, spelled_append, spelled_front, symbols_append}
+use Rattle.qpu_asm.specs.Spells.{behind_first}
+use Rattle.qpu_asm.specs.Signs.{is_colon}
+use Rattle.qpu_asm.proofs.AgainSpelled.{Spelled, spelled_append, spelled_front}
 
 -- symbols with no sign `;`
 abbrev pub Plain : List Symbol → Type 0
@@ -36,9 +37,6 @@ pub plain_append : (ss tt : List Symbol) → Plain ss → Plain tt → Plain (ss
 plain_append [] tt p q = q
 plain_append (s ∷ ss) tt p q = (p.0, plain_append ss tt p.1 q)
 
-pub bits_plain : (a b : List Bit) → Plain (symbols_of a) → Plain (symbols_of b) → Plain (symbols_of (a ++ b))
-bits_plain a b p q = subst Plain (sym (symbols_append a b)) (plain_append (symbols_of a) (symbols_of b) p q)
-
 abbrev pub AllPlain : List (List Symbol) → Type 0
 AllPlain [] = Unit {0}
 AllPlain (s ∷ ss) = Plain s × AllPlain ss
@@ -46,10 +44,6 @@ AllPlain (s ∷ ss) = Plain s × AllPlain ss
 -- sections behind the first
 abbrev pub tails : List (List Symbol) → List Symbol
 tails xs = behind_first xs
-
-pub tails_append : (a b : List (List Symbol)) → tails (a ++ b) ≡ tails a ++ tails b
-tails_append [] b = refl
-tails_append (s ∷ a) b = ap (λ z. symbol.Semicolon ∷ z) (ap (λ z. s ++ z) (tails_append a b) ∙ sym (append_assoc s (tails a) (tails b)))
 
 -- sections that are spelled so
 abbrev pub AreSections : List (List Symbol) → List SectionTokens → Type 0

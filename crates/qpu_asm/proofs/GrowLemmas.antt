@@ -24,7 +24,9 @@ use Rattle.qpu_asm.specs.declared.mark.What.{What}
 use Rattle.qpu_asm.specs.declared.mark.What.TheVariants as what
 use Rattle.qpu_asm.specs.declared.mark.Mark.{Mark}
 use Rattle.qpu_asm.specs.Roles.{source_of}
-use Rattle.qpu_asm.specs.reader.Marks.{mark, mark_if, code_of, is_condition, is_set_flags, is_branch_condition, flags_mark, first_suffix, has_condition, second_suffix, suffix_marks, condition_marks, branch_marks, no_suffix, target_place, place_mark, is_pack, is_row, pack_marks, target_marks, somewhere, if_link, fixed, unpack_name, unpack_mark, unpack_marks, source_marks, number_marks, nowhere_at, operand_marks, unit_marks, any_number, number_between, load_marks, also_marks, jump_marks, jumping_marks, is_row_name, is_r5, rotation_marks, source_in, other_a, other_b, part_marks}
+use Rattle.qpu_asm.specs.reader.Marks.{mark, mark_if, flags_mark, first_suffix, has_condition, second_suffix, suffix_marks, condition_marks, branch_marks, no_suffix, target_place, place_mark, pack_marks, target_marks, somewhere, fixed, unpack_mark, unpack_marks, source_marks, number_marks, nowhere_at, operand_marks, unit_marks, any_number, number_between, load_marks, also_marks, jump_marks, jumping_marks, is_row_name, is_r5, rotation_marks, source_in, other_a, other_b, part_marks}
+use Rattle.qpu_asm.specs.Roles.{is_row, if_link}
+use Rattle.qpu_asm.specs.Roles.{code_of, is_condition, is_set_flags, is_branch_condition, is_pack, unpack_name}
 use Rattle.qpu_asm.proofs.MarkLemmas.{Has, has_left, has_right}
 
 abbrev pub Marking : Type 0

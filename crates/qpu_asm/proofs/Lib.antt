@@ -2,7 +2,6 @@ pub mod SmallLemmas
 pub mod AgainSpelled
 pub mod AgainPieces
 pub mod AgainOperands
-pub mod AgainUnits
 pub mod AgainSections
 pub mod AgainMarks
 pub mod AgainSources
@@ -11,7 +10,6 @@ pub mod AgainHeld
 pub mod AgainUnitParts
 pub mod AgainForms
 pub mod AgainSemaphores
-pub mod AgainPlain
 pub mod AgainLoads
 pub mod AgainBranches
 pub mod AgainBoth
@@ -61,3 +59,14 @@ pub mod ReadLaw
 pub mod SpellsTrials
 pub mod TextLaw
 pub mod SpellsCanonical
+pub mod FaultChain
+pub mod FaultPieces
+pub mod FaultMarks
+pub mod FaultParts
+pub mod FaultOrder
+pub mod FaultSections
+pub mod FaultJudged
+pub mod FaultLaw
+pub mod FaultLines
+pub mod FaultTrials
+pub mod RefusedLaw

@@ -22,13 +22,14 @@ use Rattle.qpu_asm.specs.declared.mark.Mark.{Mark}
 use Rattle.qpu_asm.specs.declared.line.Line.{Line}
 use Rattle.qpu_asm.specs.declared.line.Line.TheVariants.{Raw, Says}
 use Rattle.qpu_asm.specs.Roles.{op_in_add, op_in_mul}
-use Rattle.qpu_asm.specs.Spells.{is_colon}
-use Rattle.qpu_asm.specs.reader.Pieces.{is_dot}
+use Rattle.qpu_asm.specs.Signs.{is_colon}
+use Rattle.qpu_asm.specs.Signs.{is_dot}
 use Rattle.qpu_asm.specs.reader.Orders.{is_rotation}
-use Rattle.qpu_asm.specs.reader.SectionTokens.{SectionTokens}
+use Rattle.qpu_asm.specs.SectionTokens.{SectionTokens}
 use Rattle.qpu_asm.specs.reader.Sections.{sections_of, unknown_in, first_of, parts_of}
 use Rattle.qpu_asm.specs.reader.Marks.{unit_marks, part_marks, marks_of}
-use Rattle.qpu_asm.specs.reader.Judging.{cross, line_fault}
+use Rattle.qpu_asm.specs.Clashes.{cross}
+use Rattle.qpu_asm.specs.reader.Judging.{line_fault}
 use Rattle.qpu_asm.specs.reader.Meanings.{place_of, unit_of, mul_in, unit_does, unit_sets, signal_in, address_a, address_b, reads_by, other_a_part, other_b_part, first_told, unless, units_of_parts, meaning}
 use Rattle.qpu_asm.specs.reader.LinesRead.{word_number, directive_symbol, directive, by_fault, by_parts, by_unknown, instruction_line, shaped, read_line}
 use Rattle.qpu_asm.specs.Laws.{IsProper}

@@ -11,7 +11,8 @@ use Rattle.qpu_asm.specs.declared.mark.What.TheVariants as what
 use Rattle.qpu_asm.specs.declared.mark.Mark.{Mark}
 use Rattle.qpu_asm.specs.declared.judge.Judged.{Judged}
 use Rattle.qpu_asm.specs.declared.judge.Judged.TheVariants.{Operands, TwoImmediates, TwoReads, Label, Range}
-use Rattle.qpu_asm.specs.reader.Judging.{is_wrong, cross, clashes, first_faulty, kind_of, fault_at, fault_of_kind, line_fault}
+use Rattle.qpu_asm.specs.Clashes.{is_wrong, cross, clashes, kind_of, fault_at}
+use Rattle.qpu_asm.specs.reader.Judging.{first_faulty, fault_of_kind, line_fault}
 use Rattle.qpu_asm.proofs.TestLemmas.{either_false}
 
 -- marks among others
@@ -74,7 +75,7 @@ free_first k earlier ms m none =
     let parts = free_by (is_wrong k m.what) (list_any (λ e. clashes k e.what m.what) earlier) m.token (first_faulty k (earlier ++ m ∷ []) ms) none in
     record { own = parts.0; beside = parts.1; later = parts.2 }
 
-free_own : (k : Judged) (earlier ms : List Mark) (w : What) → first_faulty k earlier ms ≡ None → Has w ms → is_wrong k w ≡ false
+pub free_own : (k : Judged) (earlier ms : List Mark) (w : What) → first_faulty k earlier ms ≡ None → Has w ms → is_wrong k w ≡ false
 free_own k earlier [] w none never = absurd never
 free_own k earlier (m ∷ ms) w none (inl is) = let P : What → Type 0 = λ v. is_wrong k v ≡ false in subst P is (free_first k earlier ms m none).own
 free_own k earlier (m ∷ ms) w none (inr later) = free_own k (earlier ++ m ∷ []) ms w (free_first k earlier ms m none).later later
@@ -84,7 +85,7 @@ none_of p [] a none never = absurd never
 none_of p (e ∷ earlier) a none (inl is) = let P : What → Type 0 = λ v. p v ≡ false in subst P is (either_false (p e.what) (list_any (λ x. p x.what) earlier) none).0
 none_of p (e ∷ earlier) a none (inr later) = none_of p earlier a (either_false (p e.what) (list_any (λ x. p x.what) earlier) none).1 later
 
-free_across : (k : Judged) (earlier ms : List Mark) (a b : What) → first_faulty k earlier ms ≡ None → Has a earlier → Has b ms → clashes k a b ≡ false
+pub free_across : (k : Judged) (earlier ms : List Mark) (a b : What) → first_faulty k earlier ms ≡ None → Has a earlier → Has b ms → clashes k a b ≡ false
 free_across k earlier [] a b none first never = absurd never
 free_across k earlier (m ∷ ms) a b none first (inl is) =
     let P : What → Type 0 = λ v. clashes k a v ≡ false in

@@ -18,7 +18,8 @@ use Rattle.qpu_asm.specs.declared.mark.What.{What}
 use Rattle.qpu_asm.specs.declared.mark.What.TheVariants as what
 use Rattle.qpu_asm.specs.declared.mark.Mark.{Mark}
 use Rattle.qpu_asm.specs.Roles.{source_of}
-use Rattle.qpu_asm.specs.reader.Marks.{mark, mark_if, code_of, fixed, no_suffix, unpack_name, unpack_mark, unpack_marks, source_marks, operand_marks}
+use Rattle.qpu_asm.specs.reader.Marks.{mark, mark_if, fixed, no_suffix, unpack_mark, unpack_marks, source_marks, operand_marks}
+use Rattle.qpu_asm.specs.Roles.{code_of, unpack_name}
 use Rattle.qpu_asm.specs.reader.Meanings.{with_unpack, unpack_in, operand_of}
 use Rattle.qpu_asm.proofs.GoodNames.{IsPlain, source_good, unpack_good}
 use Rattle.qpu_asm.proofs.MarkLemmas.{Has, has_left, has_right}

@@ -13,9 +13,11 @@ use Rattle.qpu_asm.specs.declared.part.Part.{Part}
 use Rattle.qpu_asm.specs.declared.part.Part.TheVariants as part
 use Rattle.qpu_asm.specs.Roles.{op_in_add, op_in_mul}
 use Rattle.qpu_asm.specs.reader.Parts.{part_by}
-use Rattle.qpu_asm.specs.reader.Orders.{begins, is_nop, is_unit, is_rotation, is_empty, extra, unit_follows, load_follows, branch_follows, follows, due}
-use Rattle.qpu_asm.specs.reader.SectionTokens.{SectionTokens}
-use Rattle.qpu_asm.specs.reader.Sections.{is_semicolon, Cutting, nothing_cut, put_section, cut_on, sections_of, part_after_symbol, part_after, parts_on, parts_of}
+use Rattle.qpu_asm.specs.Forms.{begins, is_nop}
+use Rattle.qpu_asm.specs.reader.Orders.{is_unit, is_rotation, is_empty, extra, unit_follows, load_follows, branch_follows, follows, due}
+use Rattle.qpu_asm.specs.SectionTokens.{SectionTokens}
+use Rattle.qpu_asm.specs.Signs.{is_semicolon}
+use Rattle.qpu_asm.specs.reader.Sections.{Cutting, nothing_cut, put_section, cut_on, sections_of, part_after_symbol, part_after, parts_on, parts_of}
 use Rattle.qpu_asm.specs.Laws.{IsProperSymbol, IsProper}
 use Rattle.qpu_asm.proofs.GoodNames.{name_good}
 use Rattle.qpu_asm.proofs.ProperParts.{Each, each_append, GoodPart, GoodSymbol, GoodPlaced, Good, GivesPart, gives_on, is_op, is_rotate, IsMade, part_good}

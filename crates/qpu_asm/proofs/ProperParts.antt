@@ -23,8 +23,9 @@ use Rattle.qpu_asm.specs.declared.part.Part.{Part}
 use Rattle.qpu_asm.specs.declared.part.Part.TheVariants as part
 use Rattle.qpu_asm.specs.Roles.{takes_one}
 use Rattle.qpu_asm.specs.reader.Reading.{Read, go_on, ended}
-use Rattle.qpu_asm.specs.Spells.{is_colon}
-use Rattle.qpu_asm.specs.reader.Pieces.{is_comma, is_dot, is_minus, named, suffix_of, suffix_behind, suffix_at, stops, alone, name_alone, bare, length_of, target_of_length, target_core, value_of_length, value_core, label_by, label_core, jump_core, has_dot, operand_core, with_suffix, target_at, operand_at, comma_at}
+use Rattle.qpu_asm.specs.Signs.{is_colon}
+use Rattle.qpu_asm.specs.Signs.{is_comma, is_dot, is_minus, stops, length_of, has_dot}
+use Rattle.qpu_asm.specs.reader.Pieces.{named, suffix_of, suffix_behind, suffix_at, alone, name_alone, bare, target_of_length, target_core, value_of_length, value_core, label_by, label_core, jump_core, operand_core, with_suffix, target_at, operand_at, comma_at}
 use Rattle.qpu_asm.specs.reader.Parts.{suffixes_at, one_operand, two_operands, operands_at, unit_part, load_part, also_part, branch_part, last_value, last_name, part_by}
 use Rattle.qpu_asm.specs.reader.Orders.{is_unit, is_rotation}
 use Rattle.qpu_asm.proofs.GoodNames.{is_good}
@@ -241,9 +242,6 @@ comma_good end [] good = tt
 comma_good end (x ∷ rest) good = gives_if _ (is_comma x.symbol) (Ok rest) (Err x.token) (λ _. good.1) (λ _. tt)
 
 -- parts
-
-abbrev IsPair : Piece × Piece → Type 0
-IsPair both = GoodPiece both.0 × GoodPiece both.1
 
 abbrev OfPiece : Piece × List Placed → Type 0
 OfPiece p = GoodPiece p.0 × Good p.1

@@ -10,9 +10,9 @@ use Rattle.qpu_asm.specs.declared.placed.Placed.{Placed}
 use Rattle.qpu_asm.specs.declared.part.Part.{Part}
 use Rattle.qpu_asm.specs.declared.line.Line.{Line}
 use Rattle.qpu_asm.specs.declared.line.Line.TheVariants.{Raw, Says}
-use Rattle.qpu_asm.specs.Spells.{is_colon}
-use Rattle.qpu_asm.specs.reader.Pieces.{is_dot}
-use Rattle.qpu_asm.specs.reader.SectionTokens.{SectionTokens}
+use Rattle.qpu_asm.specs.Signs.{is_colon}
+use Rattle.qpu_asm.specs.Signs.{is_dot}
+use Rattle.qpu_asm.specs.SectionTokens.{SectionTokens}
 use Rattle.qpu_asm.specs.reader.Sections.{sections_of, unknown_in, first_of, parts_of}
 use Rattle.qpu_asm.specs.reader.Marks.{marks_of}
 use Rattle.qpu_asm.specs.reader.Judging.{line_fault}

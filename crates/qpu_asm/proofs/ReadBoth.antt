@@ -27,8 +27,9 @@ use Rattle.qpu_asm.specs.declared.part.Part.TheVariants as part
 use Rattle.qpu_asm.specs.declared.mark.What.TheVariants as what
 use Rattle.qpu_asm.specs.declared.mark.Mark.{Mark}
 use Rattle.qpu_asm.specs.Roles.{op_in_add, op_in_mul, is_mnemonic}
-use Rattle.qpu_asm.specs.reader.Orders.{begins, is_unit, is_signal, is_rotation as is_rotation_part, is_read_a, is_read_b, due}
-use Rattle.qpu_asm.specs.reader.SectionTokens.{SectionTokens}
+use Rattle.qpu_asm.specs.Forms.{begins}
+use Rattle.qpu_asm.specs.reader.Orders.{is_unit, is_signal, is_rotation as is_rotation_part, is_read_a, is_read_b, due}
+use Rattle.qpu_asm.specs.SectionTokens.{SectionTokens}
 use Rattle.qpu_asm.specs.reader.Sections.{part_after}
 use Rattle.qpu_asm.specs.reader.Marks.{mark, mark_if, suffix_marks, pack_marks, target_marks, operand_marks, unit_marks, target_place, part_marks, marks_of}
 use Rattle.qpu_asm.specs.reader.Judging.{line_fault}

@@ -32,10 +32,11 @@ use Rattle.qpu_asm.specs.Roles.{target_meant}
 use Rattle.qpu_asm.specs.reader.Pieces.{bare, name_alone as name_core, label_by, label_core, value_core, jump_core, comma_at}
 use Rattle.qpu_asm.specs.reader.Parts.{part_by}
 use Rattle.qpu_asm.specs.reader.Orders.{is_link, is_row, is_name, due}
-use Rattle.qpu_asm.specs.reader.SectionTokens.{SectionTokens}
+use Rattle.qpu_asm.specs.SectionTokens.{SectionTokens}
 use Rattle.qpu_asm.specs.reader.Sections.{sections_of, part_after}
-use Rattle.qpu_asm.specs.reader.Marks.{mark, branch_marks, target_place, place_mark, if_link, jump_marks, jumping_marks, part_marks}
-use Rattle.qpu_asm.specs.reader.Judging.{cross}
+use Rattle.qpu_asm.specs.reader.Marks.{mark, branch_marks, target_place, place_mark, jump_marks, jumping_marks, part_marks}
+use Rattle.qpu_asm.specs.Roles.{if_link}
+use Rattle.qpu_asm.specs.Clashes.{cross}
 use Rattle.qpu_asm.specs.reader.Meanings.{branch_condition_in, place_of, distance, target_row, row_part, first_told, link_in, branch_of_part, meaning}
 use Rattle.qpu_asm.specs.Laws.{symbols_of}
 use Rattle.qpu_asm.specs.reader.LinesRead.{read_line}
@@ -45,7 +46,8 @@ use Rattle.qpu_asm.specs.SpelledPieces.SpellsNumber.{number}
 use Rattle.qpu_asm.specs.SpelledPieces.SpellsTarget.{nowhere, named as target_named}
 use Rattle.qpu_asm.specs.SpelledPieces.SpellsBranchCondition.{always, given}
 use Rattle.qpu_asm.specs.SpelledPieces.SpellsJump.{number as jump_number, label as jump_label, row as jump_row}
-use Rattle.qpu_asm.specs.Spells.{SpellsLinks, SpellsBranch, branch_name, behind_first, joined, is_colon, label_in}
+use Rattle.qpu_asm.specs.Spells.{SpellsLinks, SpellsBranch, branch_name, behind_first, joined, label_in}
+use Rattle.qpu_asm.specs.Signs.{is_colon}
 use Rattle.qpu_asm.specs.Spells.SpellsLinks.{none as links_none, link, adds}
 use Rattle.qpu_asm.specs.Spells.SpellsBranch.{branch}
 use Rattle.qpu_asm.proofs.AgainSpelled.{Spelled, spelled_append, spelled_map, never}
@@ -94,10 +96,6 @@ skip_all (s ∷ ss) (x ∷ xs) mid none h e =
     let r = skip_all ss xs mid none.1 h.1 e in
     let o = skip_one x xs (ap is_colon h.0 ∙ none.0) r.0 in
     (o.0, o.1 ∙ r.1)
-
-no_label_join : (a b : List Symbol) → NoLabel a → NoLabel b → NoLabel (a ++ b)
-no_label_join [] b one other = other
-no_label_join (s ∷ a) b one other = (one.0, no_label_join a b one.1 other)
 
 opt_no_label : (o : Option Name) → NoLabel (opt o)
 opt_no_label None = tt
@@ -177,11 +175,6 @@ jump_plain relative at o x imm row (jump_label unknown e) = (refl, (refl, tt))
 jump_plain relative at o x imm row jump_row = (refl, tt)
 
 -- the condition
-
-abbrev IsBranchCondition : Option Name → Type 0
-IsBranchCondition None = Unit {0}
-IsBranchCondition (Some (name.BranchCondition n)) = Unit {0}
-IsBranchCondition _ = ⊥
 
 record TakenSaid (c : List Symbol) (cond : ℕ) : Type 0 where
   o : Option Name
@@ -425,9 +418,6 @@ branch_line at b row v ps t ts is says are reads =
       clean = rw (marks_are (part.Branch v) ps) (no_fault c.0 nothing_given _ c.1);
       says = branch_means b.relative at b.cond b.immediate b.add b.mul row b.register v ps says are;
     }
-
-name_no_label : (relative : Bool) → is_colon (symbol.Name (branch_name relative)) ≡ false
-name_no_label relative = refl
 
 lines_are : (at : ℕ) (o : Option ℕ) (b : Branch) (c t x : List Symbol) (os : List (List Symbol)) (row : Option ℕ) (u : SectionTokens) (ts : List SectionTokens) (y : Placed) (rest : List Placed) → IsBranch b
     → SpellsBranchCondition c b.cond → SpellsTarget t b.add → SpellsJump b.relative at o x b.immediate row → SpellsLinks row os b.mul b.register → PartsThere os

@@ -27,9 +27,9 @@ use Rattle.qpu_asm.specs.declared.mark.Mark.{Mark}
 use Rattle.qpu_asm.specs.declared.line.Line.TheVariants.{Says}
 use Rattle.qpu_asm.specs.Roles.{target_meant}
 use Rattle.qpu_asm.specs.reader.Pieces.{bare, target_core}
-use Rattle.qpu_asm.specs.reader.SectionTokens.{SectionTokens}
+use Rattle.qpu_asm.specs.SectionTokens.{SectionTokens}
 use Rattle.qpu_asm.specs.reader.Marks.{suffix_marks, condition_marks, target_place, place_mark, somewhere, load_marks, also_marks, part_marks}
-use Rattle.qpu_asm.specs.reader.Judging.{cross}
+use Rattle.qpu_asm.specs.Clashes.{cross}
 use Rattle.qpu_asm.specs.reader.Meanings.{sets_in, place_of, number_of, condition_at, write_in, also_in, load_of_part, meaning}
 use Rattle.qpu_asm.specs.Laws.{symbols_of}
 use Rattle.qpu_asm.specs.reader.LinesRead.{read_line}

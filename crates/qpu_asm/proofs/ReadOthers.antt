@@ -25,7 +25,7 @@ use Rattle.qpu_asm.specs.declared.mark.Mark.{Mark}
 use Rattle.qpu_asm.specs.Roles.{source_of}
 use Rattle.qpu_asm.specs.reader.Pieces.{bare}
 use Rattle.qpu_asm.specs.reader.Orders.{is_unit, is_signal, is_rotation, is_read_a, is_read_b, extra}
-use Rattle.qpu_asm.specs.reader.SectionTokens.{SectionTokens}
+use Rattle.qpu_asm.specs.SectionTokens.{SectionTokens}
 use Rattle.qpu_asm.specs.reader.Marks.{mark, rotation_marks, other_a, other_b, part_marks}
 use Rattle.qpu_asm.specs.reader.Meanings.{rotation_of, address_a, address_b, address_of_source, signal_in, other_a_part, other_b_part, first_told, mul_in}
 use Rattle.qpu_asm.specs.SpelledPieces.{name_alone}

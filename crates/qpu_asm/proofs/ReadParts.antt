@@ -23,7 +23,7 @@ use Rattle.qpu_asm.specs.Roles.{op_in_add, op_in_mul, takes_one, is_mnemonic}
 use Rattle.qpu_asm.specs.reader.Pieces.{bare, comma_at, target_core, value_core, target_at, operand_at}
 use Rattle.qpu_asm.specs.reader.Parts.{suffixes_at, one_operand, two_operands, operands_at, unit_part, last_value, last_name, part_by}
 use Rattle.qpu_asm.specs.reader.Orders.{due}
-use Rattle.qpu_asm.specs.reader.SectionTokens.{SectionTokens}
+use Rattle.qpu_asm.specs.SectionTokens.{SectionTokens}
 use Rattle.qpu_asm.specs.reader.Sections.{part_after}
 use Rattle.qpu_asm.specs.reader.Marks.{target_place, pack_marks}
 use Rattle.qpu_asm.specs.reader.Meanings.{pack_in, condition_at}

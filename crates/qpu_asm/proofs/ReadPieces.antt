@@ -22,10 +22,12 @@ use Rattle.qpu_asm.specs.declared.piece.Piece.{Piece}
 use Rattle.qpu_asm.specs.declared.part.Suffixes.{Suffixes}
 use Rattle.qpu_asm.specs.declared.mark.What.TheVariants as what
 use Rattle.qpu_asm.specs.declared.mark.Mark.{Mark}
-use Rattle.qpu_asm.specs.reader.Pieces.{alone, bare, length_of, value_of_length, target_core, value_core, operand_core, has_dot, suffix_at, operand_at}
+use Rattle.qpu_asm.specs.reader.Pieces.{alone, bare, value_of_length, target_core, value_core, operand_core, suffix_at, operand_at}
+use Rattle.qpu_asm.specs.Signs.{length_of, has_dot}
 use Rattle.qpu_asm.specs.reader.Parts.{suffixes_at}
 use Rattle.qpu_asm.specs.Roles.{source_of, pack_of, unpack_of}
-use Rattle.qpu_asm.specs.reader.Marks.{mark, code_of, suffix_marks, target_place, fixed, pack_marks, unpack_marks, source_marks, number_marks, operand_marks}
+use Rattle.qpu_asm.specs.reader.Marks.{mark, suffix_marks, target_place, fixed, pack_marks, unpack_marks, source_marks, number_marks, operand_marks}
+use Rattle.qpu_asm.specs.Roles.{code_of}
 use Rattle.qpu_asm.specs.reader.Meanings.{sets_in, pack_in, unpack_in, with_unpack, operand_of, condition_at}
 use Rattle.qpu_asm.specs.SpelledPieces.{dotted, SpellsNumber, SpellsTarget, SpellsCondition, SpellsFlags, SpellsPack, SpellsOperand, is_nowhere}
 use Rattle.qpu_asm.specs.SpelledPieces.SpellsNumber.{number}
@@ -143,9 +145,6 @@ always_first to true s h = rw h.1 (one_by (is_nowhere to))
 
 always_alone : (to : Place) (s : Option Suffix) → Suffixed None s → condition_at to s ≡ 1
 always_alone to s h = rw h (one_by (is_nowhere to))
-
-given_at : (to : Place) (n cond : ℕ) (dot : Token) → (if is_nowhere to then 1 else n) ≡ cond → condition_at to (suffixed dot (name.Condition n)) ≡ cond
-given_at to n cond dot e = e
 
 given_first : (to : Place) (n cond : ℕ) (sets : Bool) (s : Suffixes) → (if is_nowhere to then 1 else n) ≡ cond → SaysSuffixes (Some (name.Condition n)) sets s → condition_at to s.first ≡ cond
 given_first to n cond false s e h = rw h.1 e

@@ -11,7 +11,7 @@ use Rattle.qpu_line.specs.Both.{IsOperand}
 use Rattle.qpu_line.specs.Named.{IsNamedOperand}
 use Rattle.qpu_asm.specs.declared.mark.What.TheVariants as what
 use Rattle.qpu_asm.specs.declared.mark.Mark.{Mark}
-use Rattle.qpu_asm.specs.reader.Marks.{code_of}
+use Rattle.qpu_asm.specs.Roles.{code_of}
 use Rattle.qpu_asm.specs.reader.Meanings.{address_a, address_b, reads_by}
 use Rattle.qpu_asm.proofs.MarkLemmas.{Has, IsClear}
 use Rattle.qpu_asm.proofs.OperandMarks.{Marked}

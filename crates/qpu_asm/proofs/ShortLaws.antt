@@ -24,8 +24,9 @@ use Rattle.qpu_asm.specs.declared.part.Part.TheVariants as part
 use Rattle.qpu_asm.specs.declared.mark.What.{What}
 use Rattle.qpu_asm.specs.declared.mark.What.TheVariants as what
 use Rattle.qpu_asm.specs.declared.mark.Mark.{Mark}
-use Rattle.qpu_asm.specs.reader.Marks.{mark_if, suffix_marks, condition_marks, branch_marks, target_place, place_mark, somewhere, if_link, any_number, number_between, load_marks, also_marks, jump_marks, jumping_marks, part_marks, marks_of}
-use Rattle.qpu_asm.specs.reader.Judging.{cross}
+use Rattle.qpu_asm.specs.reader.Marks.{mark_if, suffix_marks, condition_marks, branch_marks, target_place, place_mark, somewhere, any_number, number_between, load_marks, also_marks, jump_marks, jumping_marks, part_marks, marks_of}
+use Rattle.qpu_asm.specs.Roles.{if_link}
+use Rattle.qpu_asm.specs.Clashes.{cross}
 use Rattle.qpu_asm.specs.SpelledPieces.{is_nowhere, way}
 use Rattle.qpu_asm.specs.reader.Meanings.{condition_in, nowhere_place, place_of, number_of, first_told, write_in, also_in, load_of_part, distance, target_row, row_part, link_in, branch_of_part, step}
 use Rattle.qpu_asm.proofs.GoodNames.{is_placed, is_good}

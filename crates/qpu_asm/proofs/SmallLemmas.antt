@@ -4,7 +4,7 @@ use Rattle.std.specs.Prelude.{◌==◌, find, Some, None}
 use Rattle.std.specs.List.{range_with_len}
 use Rattle.std.proofs.lemmas.Bool.Decides.{nat_tests}
 use Rattle.qpu_word.specs.Operands.{small_value}
-use Rattle.qpu_asm.specs.reader.Marks.{code_of}
+use Rattle.qpu_asm.specs.Roles.{code_of}
 
 -- the first number of a range for which a test holds
 find_on : (p : ℕ → Bool) (b : Bool) (a n c : ℕ) → p a ≡ b → (a ≡ c → b ≡ true) → (a < c → b ≡ false) → a ≤ c

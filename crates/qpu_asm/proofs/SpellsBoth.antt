@@ -16,7 +16,7 @@ use Rattle.qpu_asm.specs.declared.mark.What.TheVariants as what
 use Rattle.qpu_asm.specs.declared.mark.Mark.{Mark}
 use Rattle.qpu_asm.specs.Roles.{op_in_add, op_in_mul}
 use Rattle.qpu_asm.specs.reader.Orders.{is_unit, second, extra}
-use Rattle.qpu_asm.specs.reader.SectionTokens.{SectionTokens}
+use Rattle.qpu_asm.specs.SectionTokens.{SectionTokens}
 use Rattle.qpu_asm.specs.reader.Marks.{unit_marks, part_marks, marks_of}
 use Rattle.qpu_asm.specs.reader.Meanings.{sets_in, unit_of, mul_in, unit_does, unit_sets, address_a, address_b, reads_by, other_a_part, other_b_part, first_told, unless, units_of_parts}
 use Rattle.qpu_asm.specs.Laws.{symbols_of}

@@ -25,14 +25,16 @@ use Rattle.qpu_asm.specs.declared.part.Part.TheVariants as part
 use Rattle.qpu_asm.specs.declared.mark.What.{What}
 use Rattle.qpu_asm.specs.declared.mark.What.TheVariants as what
 use Rattle.qpu_asm.specs.reader.Orders.{is_link, is_row, is_name, load_follows, branch_follows, follows}
-use Rattle.qpu_asm.specs.reader.SectionTokens.{SectionTokens}
-use Rattle.qpu_asm.specs.reader.Marks.{suffix_marks, condition_marks, branch_marks, target_place, place_mark, somewhere, if_link, any_number, load_marks, also_marks, jump_marks, jumping_marks, is_row_name, part_marks, marks_of}
+use Rattle.qpu_asm.specs.SectionTokens.{SectionTokens}
+use Rattle.qpu_asm.specs.reader.Marks.{suffix_marks, condition_marks, branch_marks, target_place, place_mark, somewhere, any_number, load_marks, also_marks, jump_marks, jumping_marks, is_row_name, part_marks, marks_of}
+use Rattle.qpu_asm.specs.Roles.{if_link}
 use Rattle.qpu_asm.specs.reader.Meanings.{sets_in, nowhere_place, place_of, number_of, write_in, also_in, load_of_part, distance, first_told, target_row, row_part, link_in, branch_of_part, step}
 use Rattle.qpu_asm.specs.Laws.{symbols_of}
 use Rattle.qpu_asm.specs.SpelledPieces.{name_alone, SpellsTarget, SpellsJump}
 use Rattle.qpu_asm.specs.SpelledPieces.SpellsTarget.{nowhere, named as target_named}
 use Rattle.qpu_asm.specs.SpelledPieces.SpellsJump.{number, label, row}
-use Rattle.qpu_asm.specs.Spells.{SpellsAlso, SpellsLoad, SpellsSemaphore, SpellsLinks, SpellsBranch, branch_name, is_colon, label_in}
+use Rattle.qpu_asm.specs.Spells.{SpellsAlso, SpellsLoad, SpellsSemaphore, SpellsLinks, SpellsBranch, branch_name, label_in}
+use Rattle.qpu_asm.specs.Signs.{is_colon}
 use Rattle.qpu_asm.specs.Spells.SpellsAlso.{absent, also}
 use Rattle.qpu_asm.specs.Spells.SpellsLoad.{load}
 use Rattle.qpu_asm.specs.Spells.SpellsSemaphore.{increment, decrement}

@@ -13,8 +13,9 @@ use Rattle.qpu_asm.specs.declared.part.Part.{Part}
 use Rattle.qpu_asm.specs.declared.part.Part.TheVariants as part
 use Rattle.qpu_asm.specs.declared.line.Line.TheVariants.{Says}
 use Rattle.qpu_asm.specs.Roles.{op_in_mul}
-use Rattle.qpu_asm.specs.reader.Orders.{begins, is_nop, extra, unit_follows, due}
-use Rattle.qpu_asm.specs.reader.SectionTokens.{SectionTokens}
+use Rattle.qpu_asm.specs.Forms.{begins, is_nop}
+use Rattle.qpu_asm.specs.reader.Orders.{extra, unit_follows, due}
+use Rattle.qpu_asm.specs.SectionTokens.{SectionTokens}
 use Rattle.qpu_asm.specs.reader.Marks.{marks_of}
 use Rattle.qpu_asm.specs.reader.Meanings.{meaning}
 use Rattle.qpu_asm.specs.reader.LinesRead.{read_line}

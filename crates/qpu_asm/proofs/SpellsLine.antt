@@ -13,18 +13,20 @@ use Rattle.qpu_asm.specs.declared.placed.Placed.{Placed}
 use Rattle.qpu_asm.specs.declared.part.Part.{Part}
 use Rattle.qpu_asm.specs.declared.line.Line.{Line}
 use Rattle.qpu_asm.specs.declared.line.Line.TheVariants.{Raw, Says}
-use Rattle.qpu_asm.specs.reader.Pieces.{is_dot}
+use Rattle.qpu_asm.specs.Signs.{is_dot}
 use Rattle.qpu_asm.specs.reader.Reading.{go_on}
 use Rattle.qpu_asm.specs.reader.Parts.{part_by}
 use Rattle.qpu_asm.specs.reader.Orders.{due}
-use Rattle.qpu_asm.specs.reader.SectionTokens.{SectionTokens}
-use Rattle.qpu_asm.specs.reader.Sections.{is_semicolon, Cutting, put_section, cut_on, sections_of, unknown_in, first_of, part_after_symbol, part_after, parts_on, parts_of}
+use Rattle.qpu_asm.specs.SectionTokens.{SectionTokens}
+use Rattle.qpu_asm.specs.Signs.{is_semicolon}
+use Rattle.qpu_asm.specs.reader.Sections.{Cutting, put_section, cut_on, sections_of, unknown_in, first_of, part_after_symbol, part_after, parts_on, parts_of}
 use Rattle.qpu_asm.specs.reader.Marks.{marks_of}
 use Rattle.qpu_asm.specs.reader.Judging.{line_fault}
 use Rattle.qpu_asm.specs.reader.Meanings.{meaning}
 use Rattle.qpu_asm.specs.reader.LinesRead.{directive, by_fault, by_parts, by_unknown, instruction_line, shaped, read_line}
 use Rattle.qpu_asm.specs.Laws.{symbols_of}
-use Rattle.qpu_asm.specs.Spells.{joined, is_colon, label_in}
+use Rattle.qpu_asm.specs.Spells.{joined, label_in}
+use Rattle.qpu_asm.specs.Signs.{is_colon}
 use Rattle.qpu_asm.proofs.ProperParts.{Good, GivesPart}
 use Rattle.qpu_asm.proofs.ProperLines.{GoodParts, line_good}
 use Rattle.qpu_asm.proofs.LineLaw.{IsRaw, raw_directive}

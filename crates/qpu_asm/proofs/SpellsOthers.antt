@@ -25,8 +25,9 @@ use Rattle.qpu_asm.specs.declared.mark.What.{What}
 use Rattle.qpu_asm.specs.declared.mark.What.TheVariants as what
 use Rattle.qpu_asm.specs.declared.mark.Mark.{Mark}
 use Rattle.qpu_asm.specs.Roles.{op_in_mul, source_of}
-use Rattle.qpu_asm.specs.reader.Orders.{is_nop, is_unit, is_signal, is_rotation, is_read_a, is_read_b, is_empty, extra, unit_follows, follows}
-use Rattle.qpu_asm.specs.reader.SectionTokens.{SectionTokens}
+use Rattle.qpu_asm.specs.Forms.{is_nop}
+use Rattle.qpu_asm.specs.reader.Orders.{is_unit, is_signal, is_rotation, is_read_a, is_read_b, is_empty, extra, unit_follows, follows}
+use Rattle.qpu_asm.specs.SectionTokens.{SectionTokens}
 use Rattle.qpu_asm.specs.reader.Marks.{mark, is_r5, number_between, rotation_marks, source_in, other_a, other_b, part_marks}
 use Rattle.qpu_asm.specs.reader.Meanings.{number_of, rotation_of, signal_in, address_a, address_b, address_of_source, other_a_part, other_b_part, first_told}
 use Rattle.qpu_asm.specs.Laws.{symbols_of}

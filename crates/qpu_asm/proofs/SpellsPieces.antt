@@ -27,7 +27,9 @@ use Rattle.qpu_asm.specs.declared.mark.What.{What}
 use Rattle.qpu_asm.specs.declared.mark.What.TheVariants as what
 use Rattle.qpu_asm.specs.declared.mark.Mark.{Mark}
 use Rattle.qpu_asm.specs.Roles.{target_meant, source_of, pack_of}
-use Rattle.qpu_asm.specs.reader.Marks.{mark, mark_if, code_of, first_suffix, second_suffix, suffix_marks, condition_marks, branch_marks, no_suffix, target_place, place_mark, is_pack, is_row, pack_marks, somewhere, if_link, fixed, unpack_name, unpack_mark, unpack_marks, source_marks, operand_marks, any_number, number_between}
+use Rattle.qpu_asm.specs.reader.Marks.{mark, mark_if, first_suffix, second_suffix, suffix_marks, condition_marks, branch_marks, no_suffix, target_place, place_mark, pack_marks, somewhere, fixed, unpack_mark, unpack_marks, source_marks, operand_marks, any_number, number_between}
+use Rattle.qpu_asm.specs.Roles.{is_row, if_link}
+use Rattle.qpu_asm.specs.Roles.{code_of, is_pack, unpack_name}
 use Rattle.qpu_asm.specs.reader.Meanings.{condition_in, branch_condition_in, sets_in, pack_name, pack_in, unpack_in, nowhere_place, place_of, number_of, with_unpack, operand_of, condition_at, write_in}
 use Rattle.qpu_asm.specs.SpelledPieces.{name_alone, dotted, SpellsNumber, SpellsTarget, is_nowhere, SpellsCondition, SpellsFlags, SpellsBranchCondition, SpellsPack, SpellsOperand, SpellsOperands, written}
 use Rattle.qpu_asm.specs.SpelledPieces.SpellsNumber.{number}

@@ -12,7 +12,7 @@ use Rattle.qpu_asm.specs.declared.placed.Placed.{Placed}
 use Rattle.qpu_asm.specs.declared.part.Part.{Part}
 use Rattle.qpu_asm.specs.declared.part.Part.TheVariants as part
 use Rattle.qpu_asm.specs.reader.Orders.{follows, due}
-use Rattle.qpu_asm.specs.reader.SectionTokens.{SectionTokens}
+use Rattle.qpu_asm.specs.SectionTokens.{SectionTokens}
 use Rattle.qpu_asm.specs.Laws.{symbols_of}
 use Rattle.qpu_asm.proofs.ProperParts.{is_op}
 use Rattle.qpu_asm.proofs.SpellsTold.{Told}

@@ -25,7 +25,8 @@ use Rattle.qpu_asm.specs.reader.Sections.{sections_of, parts_of}
 use Rattle.qpu_asm.specs.reader.Orders.{due}
 use Rattle.qpu_asm.specs.reader.Parts.{suffixes_at, two_operands, unit_part, branch_part, last_value, part_by}
 use Rattle.qpu_asm.specs.reader.Pieces.{target_core, value_core, jump_core, operand_core, target_at, operand_at}
-use Rattle.qpu_asm.specs.reader.Marks.{code_of, suffix_marks, target_marks, operand_marks, unit_marks, jumping_marks, part_marks, marks_of}
+use Rattle.qpu_asm.specs.Roles.{code_of}
+use Rattle.qpu_asm.specs.reader.Marks.{suffix_marks, target_marks, operand_marks, unit_marks, jumping_marks, part_marks, marks_of}
 use Rattle.qpu_asm.specs.reader.Judging.{fault_of_kind, line_fault}
 use Rattle.qpu_asm.specs.SpelledPieces.IsName.{unknown}
 use Rattle.qpu_asm.specs.SpelledPieces.SpellsNumber.{number}
@@ -51,7 +52,7 @@ use Rattle.qpu_asm.specs.Spells.SpellsLinks.{none as no_links}
 use Rattle.qpu_asm.specs.Spells.SpellsBranch.{branch}
 use Rattle.qpu_asm.proofs.ReadLaw.{parts_read}
 
-abbrev r : ℕ → Symbol
+abbrev pub r : ℕ → Symbol
 r n = symbol.Name (name.Register (register.Accumulator n))
 
 -- sub.setf r3, r3, 1

@@ -18,8 +18,9 @@ use Rattle.qpu_asm.specs.declared.mark.What.{What}
 use Rattle.qpu_asm.specs.declared.mark.What.TheVariants as what
 use Rattle.qpu_asm.specs.declared.mark.Mark.{Mark}
 use Rattle.qpu_asm.specs.Roles.{target_meant as named_target}
-use Rattle.qpu_asm.specs.reader.Marks.{target_place, place_mark, somewhere, if_link}
-use Rattle.qpu_asm.specs.reader.Judging.{cross}
+use Rattle.qpu_asm.specs.reader.Marks.{target_place, place_mark, somewhere}
+use Rattle.qpu_asm.specs.Roles.{if_link}
+use Rattle.qpu_asm.specs.Clashes.{cross}
 use Rattle.qpu_asm.specs.reader.Meanings.{condition_of, condition_in, branch_condition_of, branch_condition_in, nowhere_place, place_of}
 use Rattle.qpu_asm.proofs.GoodNames.{is_placed, target_good, condition_good, branch_condition_good}
 use Rattle.qpu_asm.proofs.MarkLemmas.{Has}

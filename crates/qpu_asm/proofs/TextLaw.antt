@@ -22,17 +22,17 @@ use Rattle.qpu_asm.proofs.OneAssembly.Known.{by_fault, by_tokens}
 
 -- a line
 
-line_spells : (text : List ℕ) (labels : Labels) (at : ℕ) (line : List Token) (l : Line) → line_at text labels at line ≡ Ok l → SpellsWord at (placed_line text labels line) (word_in l)
+pub line_spells : (text : List ℕ) (labels : Labels) (at : ℕ) (line : List Token) (l : Line) → line_at text labels at line ≡ Ok l → SpellsWord at (placed_line text labels line) (word_in l)
 unfolding line_at
 line_spells text labels at line (Raw n) e = raw ((raw_law at (closing_token line) (placed_line text labels line) n).0 e)
 line_spells text labels at line (Says i) e = says ((spelled_law at (closing_token line) (placed_line text labels line) i (all_placed text labels _)).0 e)
 
-record HasWordOf (text : List ℕ) (labels : Labels) (at : ℕ) (line : List Token) (word : ℕ) : Type 0 where
-  said : Line
-  is : line_at text labels at line ≡ Ok said
-  word_is : word_in said ≡ word
+pub record HasWordOf (text : List ℕ) (labels : Labels) (at : ℕ) (line : List Token) (word : ℕ) : Type 0 where
+  pub said : Line
+  pub is : line_at text labels at line ≡ Ok said
+  pub word_is : word_in said ≡ word
 
-line_has : (text : List ℕ) (labels : Labels) (at : ℕ) (line : List Token) (word : ℕ) → SpellsWord at (placed_line text labels line) word → HasWordOf text labels at line word
+pub line_has : (text : List ℕ) (labels : Labels) (at : ℕ) (line : List Token) (word : ℕ) → SpellsWord at (placed_line text labels line) word → HasWordOf text labels at line word
 unfolding line_at
 line_has text labels at line word (raw e) = record { said = Raw word; is = (raw_law at (closing_token line) (placed_line text labels line) word).1 e; word_is = refl }
 line_has text labels at line word (says {i = i} s) =
@@ -45,7 +45,7 @@ record Spelling (text : List ℕ) (labels : Labels) (before : List ℕ) (lines :
   whole : all ≡ before ++ words
   spell : SpellWords text labels (length before) lines words
 
-one_more : (before : List ℕ) (word : ℕ) → length (before ++ word ∷ []) ≡ length before + 1
+pub one_more : (before : List ℕ) (word : ℕ) → length (before ++ word ∷ []) ≡ length before + 1
 one_more before word = length-append before (word ∷ [])
 
 lines_by : (text : List ℕ) (labels : Labels) (before : List ℕ) (line : List Token) (lines : List (List Token)) (all : List ℕ) (r : Result Line AsmFault) → line_at text labels (length before) line ≡ r
@@ -68,7 +68,7 @@ lines_spell text labels before [] all e = record { words = []; whole = same_word
 lines_spell text labels before (line ∷ lines) all e =
     lines_by text labels before line lines all (line_at text labels (length before) line) refl e (λ word f. lines_spell text labels (before ++ word ∷ []) lines all f)
 
-line_step : (text : List ℕ) (labels : Labels) (before : List ℕ) (lines : List (List Token)) (r : Result Line AsmFault) (l : Line) (word : ℕ) → r ≡ Ok l → word_in l ≡ word
+pub line_step : (text : List ℕ) (labels : Labels) (before : List ℕ) (lines : List (List Token)) (r : Result Line AsmFault) (l : Line) (word : ℕ) → r ≡ Ok l → word_in l ≡ word
     → and_then (and_then r (λ m. Ok (before ++ word_in m ∷ []))) (λ more. words_of_lines text labels more lines) ≡ words_of_lines text labels (before ++ word ∷ []) lines
 line_step text labels before lines r l word e f = rw (e, f) refl
 

@@ -20,7 +20,9 @@ use Rattle.qpu_asm.specs.declared.mark.What.{What}
 use Rattle.qpu_asm.specs.declared.mark.What.TheVariants as what
 use Rattle.qpu_asm.specs.declared.mark.Mark.{Mark}
 use Rattle.qpu_asm.specs.Roles.{add_code, mul_code, op_in_add, op_in_mul, takes_one, pack_of}
-use Rattle.qpu_asm.specs.reader.Marks.{mark_if, suffix_marks, target_place, place_mark, is_pack, is_row, pack_marks, target_marks, operand_marks, unit_marks}
+use Rattle.qpu_asm.specs.reader.Marks.{mark_if, suffix_marks, target_place, place_mark, pack_marks, target_marks, operand_marks, unit_marks}
+use Rattle.qpu_asm.specs.Roles.{is_row}
+use Rattle.qpu_asm.specs.Roles.{is_pack}
 use Rattle.qpu_asm.specs.SpelledPieces.{is_nowhere}
 use Rattle.qpu_asm.specs.reader.Meanings.{condition_in, pack_name, pack_in, nowhere_place, place_of, operand_of, condition_at, unit_of}
 use Rattle.qpu_asm.proofs.GoodNames.{is_placed, is_pack as is_pack_mode, pack_good}
@@ -32,9 +34,6 @@ use Rattle.qpu_asm.proofs.OperandMarks.{IsSaid, operand_said}
 use Rattle.qpu_asm.proofs.TestLemmas.{never, both_true, or_true}
 
 -- packs
-
-record IsPacked (to : Place) (pack : ℕ) : Type 0 where
-  fits : is_pack_at to pack ≡ true
 
 pack_mode : (n : Option Name) → GoodName n → is_pack n ≡ true → is_pack_mode (unwrap_or (pack_name n) 0) ≡ true
 pack_mode None good is = absurd (grind (arith, is))

@@ -17,7 +17,7 @@ use Rattle.qpu_line.specs.Both.{IsPart}
 use Rattle.qpu_line.specs.Named.{IsNamedOperand, is_pack_at}
 use Rattle.qpu_asm.specs.declared.mark.What.TheVariants as what
 use Rattle.qpu_asm.specs.declared.mark.Mark.{Mark}
-use Rattle.qpu_asm.specs.reader.Judging.{cross}
+use Rattle.qpu_asm.specs.Clashes.{cross}
 use Rattle.qpu_asm.proofs.GoodNames.{is_placed}
 use Rattle.qpu_asm.proofs.MarkLemmas.{Has, has_left, has_right, before_join, IsClear}
 use Rattle.qpu_asm.proofs.TargetLemmas.{TargetsFit, targets_fit}

@@ -8,7 +8,7 @@ use Rattle.qpu_line.specs.Units.{to_of}
 use Rattle.qpu_line.specs.Named.{IsNamedOperand, IsNamedPart}
 use Rattle.qpu_asm.specs.declared.mark.What.TheVariants as what
 use Rattle.qpu_asm.specs.declared.mark.Mark.{Mark}
-use Rattle.qpu_asm.specs.reader.Judging.{cross}
+use Rattle.qpu_asm.specs.Clashes.{cross}
 use Rattle.qpu_asm.specs.reader.Meanings.{address_a, address_b, reads_by, unless}
 use Rattle.qpu_asm.proofs.MarkLemmas.{has_left, before_left, IsClear}
 use Rattle.qpu_asm.proofs.OperandMarks.{Marked, IsSaid}

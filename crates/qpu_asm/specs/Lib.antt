@@ -1,7 +1,15 @@
+pub mod Expressions
+pub mod Signs
+pub mod SectionTokens
 pub mod Placed
 pub mod Roles
+pub mod Forms
+pub mod Clashes
+pub mod Stands
+pub mod Faults
 pub mod Assembly
 pub mod SpelledTexts
+pub mod RefusedTexts
 pub mod Laws
 pub mod SpelledPieces
 pub mod Spells

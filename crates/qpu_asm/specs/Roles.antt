@@ -1,13 +1,17 @@
 -- What names stand for, by where they stand. The codes and addresses are those of the VideoCore IV 3D
 -- Architecture Reference Guide, "QPU Instruction Encoding" and "QPU Register Address Map"; the names are
 -- this project's own.
-use Rattle.std.specs.Prelude.{ℕ, ◌+◌, ◌==◌, ◌&&◌, Bool, true, false, not, nat_lt, Option, Some, None, if◌then◌else◌}
+use Rattle.std.specs.Prelude.{ℕ, ◌+◌, ◌==◌, ◌&&◌, Bool, true, false, not, nat_lt, find, Option, Some, None, is_some, if◌then◌else◌}
+use Rattle.std.specs.List.{range_with_len}
 use Rattle.qpu_word.specs.declared.operation.AddOp.{AddOp}
 use Rattle.qpu_word.specs.declared.operation.AddOp.TheVariants as add
 use Rattle.qpu_word.specs.declared.operation.MulOp.{MulOp}
 use Rattle.qpu_word.specs.declared.operation.MulOp.TheVariants as mul
 use Rattle.qpu_word.specs.declared.name.Place.{Place}
 use Rattle.qpu_word.specs.declared.name.Place.TheVariants as place
+use Rattle.qpu_word.specs.Operands.{small_value}
+use Rattle.qpu_word.specs.Words.{is_link_address}
+use Rattle.qpu_line.specs.Targets.{address_of, is_row_a}
 use Rattle.qpu_word.specs.declared.code.TheConstants.{READ_VPM, WRITE_R0, WRITE_VPM}
 use Rattle.qpu_line.specs.declared.operand.Operand.{Operand}
 use Rattle.qpu_line.specs.declared.operand.Operand.TheVariants as operand
@@ -94,6 +98,11 @@ abbrev pub source_of : Name → Option Operand
 source_of (name.Register r) = source_register r
 source_of _ = None
 
+-- what a branch links to: rows, r0 to r3 and `-`
+abbrev pub if_link : Option Place → Option Place
+if_link None = None
+if_link (Some p) = if is_link_address (address_of p) then Some p else None
+
 -- suffixes
 
 abbrev pub pack_of : Name → Option ℕ
@@ -104,6 +113,35 @@ abbrev pub unpack_of : Name → Option ℕ
 unpack_of (name.Pack mode) = if nat_lt mode 8 && not (mode == 3) then Some mode else None
 unpack_of name.Replicate = Some 3
 unpack_of _ = None
+
+-- a name that may be there or not
+abbrev pub is_condition : Option Name → Bool
+is_condition (Some (name.Condition n)) = true
+is_condition _ = false
+
+abbrev pub is_set_flags : Option Name → Bool
+is_set_flags (Some name.SetFlags) = true
+is_set_flags _ = false
+
+abbrev pub is_branch_condition : Option Name → Bool
+is_branch_condition (Some (name.BranchCondition n)) = true
+is_branch_condition _ = false
+
+abbrev pub is_pack : Option Name → Bool
+is_pack None = false
+is_pack (Some n) = is_some (pack_of n)
+
+abbrev pub is_row : Option Place → Bool
+is_row None = false
+is_row (Some p) = is_row_a p
+
+abbrev pub unpack_name : Option Name → Option ℕ
+unpack_name None = None
+unpack_name (Some n) = unpack_of n
+
+-- the code of a small immediate with a value
+unfoldable pub code_of : ℕ → Option ℕ
+code_of value = find (λ code. small_value code == value) (range_with_len 0 48)
 
 -- a part of a line may begin with this name
 abbrev pub is_mnemonic : Name → Bool

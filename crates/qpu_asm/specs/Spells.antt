@@ -26,6 +26,7 @@ use Rattle.qpu_line.specs.declared.symbol.Symbol.TheVariants as symbol
 use Rattle.qpu_line.specs.Named.{HasWord}
 use Rattle.qpu_asm.specs.declared.placed.Placed.{Placed}
 use Rattle.qpu_asm.specs.Roles.{op_in_add, op_in_mul, takes_one, target_meant, source_of}
+use Rattle.qpu_asm.specs.Signs.{is_colon}
 use Rattle.qpu_asm.specs.Laws.{symbols_of}
 use Rattle.qpu_asm.specs.SpelledPieces.{name_alone, SpellsNumber, SpellsTarget, SpellsCondition, SpellsFlags, SpellsBranchCondition, SpellsPack, SpellsOperands, written, SpellsJump}
 
@@ -159,10 +160,6 @@ pub record Spells (at : ℕ) (label : Option ℕ) (line : List Symbol) (i : Inst
   pub fits : HasWord i
 
 -- the word of the label behind a line's first sign `:`
-
-abbrev pub is_colon : Symbol → Bool
-is_colon symbol.Colon = true
-is_colon _ = false
 
 abbrev pub label_in : List Placed → Option ℕ
 label_in [] = None

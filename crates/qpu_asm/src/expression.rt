@@ -1,6 +1,6 @@
 //! How far an expression goes.
 ghost use Rattle.std.specs.Prelude.{◌≡◌, ◌<◌, ◌+◌, ◌^◌, length, map, option_map};
-ghost use Rattle.qpu_asm.specs.reader.Expressions.{value_read, closed, sign_read, symbol_read, ended, length_from, expression_length};
+ghost use Rattle.qpu_asm.specs.Expressions.{value_read, closed, sign_read, symbol_read, ended, length_from, expression_length};
 
 use crate::placed::Placed;
 use qpu_line::Symbol;

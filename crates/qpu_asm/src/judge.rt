@@ -1,7 +1,8 @@
 //! The faults of a line's marks, kind by kind.
 ghost use Rattle.std.specs.Prelude.{◌≡◌, []};
 ghost use Rattle.std.specs.List.{list_any};
-ghost use Rattle.qpu_asm.specs.reader.Judging.{is_wrong, cross, not_beside, other_immediate, other_read, clashes, is_faulty, first_faulty, kind_of, fault_at, fault_of_kind, line_fault};
+ghost use Rattle.qpu_asm.specs.Clashes.{is_wrong, cross, not_beside, other_immediate, other_read, clashes, kind_of, fault_at};
+ghost use Rattle.qpu_asm.specs.reader.Judging.{is_faulty, first_faulty, fault_of_kind, line_fault};
 
 use crate::mark::{Mark, What};
 use qpu_token::{AsmFault, AsmKind, Token};

@@ -29,8 +29,13 @@ mod words;
 pub use again::{canonical_lines_are_read, canonical_lines_are_spelled};
 pub use assembly::assemble;
 pub use laws::{
-    lines_have_words, lines_of_texts_have_words, lines_of_texts_spell_what_they_say,
-    lines_spell_what_they_say, placed_tokens_are_proper, raw_lines_are_words,
-    texts_have_one_answer, texts_have_the_words_they_spell, two_immediates_spell_nothing,
+    lines_are_refused_as_the_table_says, lines_have_words, lines_of_texts_have_words,
+    lines_of_texts_spell_what_they_say, lines_spell_what_they_say, lines_without_faults_spell,
+    placed_tokens_are_proper, raw_lines_are_words, second_numbers_are_faults,
+    texts_are_refused_as_the_table_says, texts_have_one_answer, texts_have_the_words_they_spell,
+    two_immediates_spell_nothing,
 };
 pub use words::words_of;
+
+#[cfg(test)]
+mod tests;

@@ -1,6 +1,7 @@
 //! What the names and numbers of a line's parts stand for, in the line's order: what is judged.
 ghost use Rattle.std.specs.Prelude.{◌≡◌, [], OnOk};
-ghost use Rattle.qpu_asm.specs.reader.Marks.{mark, mark_if, code_of};
+ghost use Rattle.qpu_asm.specs.reader.Marks.{mark, mark_if};
+ghost use Rattle.qpu_asm.specs.Roles.{code_of};
 
 use qpu_pack::small_code;
 use qpu_token::Token;

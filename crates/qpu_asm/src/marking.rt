@@ -1,7 +1,9 @@
 //! The marks of a line's parts.
 ghost use Rattle.std.specs.Prelude.{◌≡◌, true, fold, IfOk, OnOk};
 ghost use Rattle.qpu_word.specs.Words.{is_link_address};
-ghost use Rattle.qpu_asm.specs.reader.Marks.{is_condition, is_set_flags, is_branch_condition, first_suffix, has_condition, second_suffix, suffix_marks, condition_marks, branch_marks, no_suffix, target_place, place_mark, is_pack, is_row, pack_marks, target_marks, somewhere, if_link, unpack_name, unpack_marks, source_marks, number_marks, nowhere_at, operand_marks, unit_marks, any_number, number_between, load_marks, also_marks, jump_marks, jumping_marks, is_row_name, is_r5, rotation_marks, source_in, other_a, other_b, part_marks, marks_of};
+ghost use Rattle.qpu_asm.specs.Roles.{is_condition, is_set_flags, is_branch_condition, is_pack, unpack_name};
+ghost use Rattle.qpu_asm.specs.reader.Marks.{first_suffix, has_condition, second_suffix, suffix_marks, condition_marks, branch_marks, no_suffix, target_place, place_mark, pack_marks, target_marks, somewhere, unpack_marks, source_marks, number_marks, nowhere_at, operand_marks, unit_marks, any_number, number_between, load_marks, also_marks, jump_marks, jumping_marks, is_row_name, is_r5, rotation_marks, source_in, other_a, other_b, part_marks, marks_of};
+ghost use Rattle.qpu_asm.specs.Roles.{is_row, if_link};
 
 use crate::mark::{Marks, What, code_of};
 use crate::part::{AlsoPart, BranchPart, LoadPart, Part, Suffixes, UnitPart};

@@ -1,7 +1,8 @@
 //! Which parts may follow which in a line.
 ghost use Rattle.std.specs.Prelude.{◌≡◌};
 ghost use Rattle.std.specs.List.{list_any};
-ghost use Rattle.qpu_asm.specs.reader.Orders.{begins, is_nop, is_unit, is_rotation, is_signal, is_read_a, is_read_b, is_link, is_row, no, extra, second, unit_follows, load_follows, is_name, branch_follows, follows, due};
+ghost use Rattle.qpu_asm.specs.Forms.{begins, is_nop};
+ghost use Rattle.qpu_asm.specs.reader.Orders.{is_unit, is_rotation, is_signal, is_read_a, is_read_b, is_link, is_row, no, extra, second, unit_follows, load_follows, is_name, branch_follows, follows, due};
 
 use crate::part::{BranchPart, Part};
 use crate::piece::Core;

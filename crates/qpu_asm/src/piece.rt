@@ -1,7 +1,8 @@
 //! Pieces of a part: targets, operands, numbers and labels, with their suffixes.
 ghost use Rattle.std.specs.Prelude.{◌≡◌, drop};
 ghost use Rattle.qpu_asm.specs.reader.Reading.{told, left_behind};
-ghost use Rattle.qpu_asm.specs.reader.Pieces.{named, suffix_at, stops, alone, name_alone, bare, target_core, value_core, label_core, jump_core, has_dot, operand_core, target_at, operand_at, comma_at};
+ghost use Rattle.qpu_asm.specs.reader.Pieces.{named, suffix_at, alone, name_alone, bare, target_core, value_core, label_core, jump_core, operand_core, target_at, operand_at, comma_at};
+ghost use Rattle.qpu_asm.specs.Signs.{stops, has_dot};
 
 use crate::expression::expression_length;
 use crate::placed::Placed;

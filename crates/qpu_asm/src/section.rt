@@ -23,7 +23,7 @@ pub(crate) struct Section {
 }
 
 impl Model for Section {
-    ghost use Rattle.qpu_asm.specs.reader.SectionTokens.{SectionTokens};
+    ghost use Rattle.qpu_asm.specs.SectionTokens.{SectionTokens};
 
     ghost Value = { SectionTokens };
 

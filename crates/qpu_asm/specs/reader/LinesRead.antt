@@ -13,12 +13,14 @@ use Rattle.qpu_asm.specs.declared.part.Part.{Part}
 use Rattle.qpu_asm.specs.declared.line.Line.{Line}
 use Rattle.qpu_asm.specs.declared.line.Line.TheVariants.{Raw, Says}
 use Rattle.qpu_asm.specs.reader.Reading.{go_on, ended}
-use Rattle.qpu_asm.specs.Spells.{is_colon}
-use Rattle.qpu_asm.specs.reader.Pieces.{is_comma, is_dot, name_alone, length_of}
-use Rattle.qpu_asm.specs.reader.SectionTokens.{SectionTokens}
+use Rattle.qpu_asm.specs.Signs.{is_colon}
+use Rattle.qpu_asm.specs.Signs.{is_comma, is_dot, length_of}
+use Rattle.qpu_asm.specs.reader.Pieces.{name_alone}
+use Rattle.qpu_asm.specs.SectionTokens.{SectionTokens}
 use Rattle.qpu_asm.specs.reader.Sections.{sections_of, unknown_in, own_fault, first_of, parts_of}
 use Rattle.qpu_asm.specs.reader.Marks.{marks_of}
-use Rattle.qpu_asm.specs.reader.Judging.{fault_at, line_fault}
+use Rattle.qpu_asm.specs.Clashes.{fault_at}
+use Rattle.qpu_asm.specs.reader.Judging.{line_fault}
 use Rattle.qpu_asm.specs.reader.Meanings.{meaning}
 
 -- directives

@@ -1,19 +1,14 @@
 -- What the names and numbers of a line's parts stand for, in the line's order. This project's own; what
 -- may stand where is the VideoCore IV 3D Architecture Reference Guide's, "QPU Instruction Encoding".
-use Rattle.std.specs.Prelude.{ℕ, ◌==◌, ◌&&◌, Bool, true, false, not, nat_lt, nat_le, List, [], ◌∷◌, ◌++◌, fold, find, Option, Some, None, is_some, is_none, if◌then◌else◌}
-use Rattle.std.specs.List.{range_with_len}
+use Rattle.std.specs.Prelude.{ℕ, ◌==◌, ◌&&◌, Bool, true, false, not, nat_lt, nat_le, List, [], ◌∷◌, ◌++◌, fold, Option, Some, None, is_none, if◌then◌else◌}
 use Rattle.qpu_token.specs.declared.token.Token.{Token}
 use Rattle.qpu_word.specs.declared.name.Place.{Place}
 use Rattle.qpu_word.specs.declared.name.Place.TheVariants as place
 use Rattle.qpu_word.specs.declared.code.TheConstants.{ROWS, NOWHERE}
-use Rattle.qpu_word.specs.Words.{is_link_address}
-use Rattle.qpu_word.specs.Operands.{small_value}
 use Rattle.qpu_line.specs.declared.operand.Operand.{Operand}
 use Rattle.qpu_line.specs.declared.operand.Operand.TheVariants as operand
-use Rattle.qpu_line.specs.declared.name.Name.{Name}
 use Rattle.qpu_line.specs.declared.name.Name.TheVariants as name
 use Rattle.qpu_line.specs.declared.name.Register.TheVariants as register
-use Rattle.qpu_line.specs.Targets.{address_of, is_row_a}
 use Rattle.qpu_asm.specs.declared.piece.Core.{Core}
 use Rattle.qpu_asm.specs.declared.piece.Core.TheVariants as core
 use Rattle.qpu_asm.specs.declared.piece.Suffix.{Suffix}
@@ -28,7 +23,7 @@ use Rattle.qpu_asm.specs.declared.part.Part.TheVariants as part
 use Rattle.qpu_asm.specs.declared.mark.What.{What}
 use Rattle.qpu_asm.specs.declared.mark.What.TheVariants as what
 use Rattle.qpu_asm.specs.declared.mark.Mark.{Mark}
-use Rattle.qpu_asm.specs.Roles.{target_meant, source_of, pack_of, unpack_of}
+use Rattle.qpu_asm.specs.Roles.{target_meant, source_of, is_condition, is_set_flags, is_branch_condition, is_pack, is_row, if_link, unpack_name, code_of}
 
 -- a mark behind others
 abbrev pub mark : What → Token → List Mark → List Mark
@@ -37,24 +32,7 @@ mark w token ms = ms ++ record { what = w; token = token } ∷ []
 abbrev pub mark_if : Bool → What → Token → List Mark → List Mark
 mark_if holds w token ms = if holds then mark w token ms else ms
 
--- the code of a small immediate with a value
-unfoldable pub code_of : ℕ → Option ℕ
-code_of value = find (λ code. small_value code == value) (range_with_len 0 48)
-
 -- suffixes of mnemonics
-
--- a name that may be there or not
-abbrev pub is_condition : Option Name → Bool
-is_condition (Some (name.Condition n)) = true
-is_condition _ = false
-
-abbrev pub is_set_flags : Option Name → Bool
-is_set_flags (Some name.SetFlags) = true
-is_set_flags _ = false
-
-abbrev pub is_branch_condition : Option Name → Bool
-is_branch_condition (Some (name.BranchCondition n)) = true
-is_branch_condition _ = false
 
 -- `.setf`, which the mul unit's part has only where the add unit is idle
 abbrev pub flags_mark : Bool → Token → List Mark → List Mark
@@ -105,14 +83,6 @@ abbrev pub place_mark : Option Place → Token → List Mark → List Mark
 place_mark None token ms = mark what.Wrong token ms
 place_mark (Some p) token ms = mark (what.Writes p) token ms
 
-abbrev pub is_pack : Option Name → Bool
-is_pack None = false
-is_pack (Some n) = is_some (pack_of n)
-
-abbrev pub is_row : Option Place → Bool
-is_row None = false
-is_row (Some p) = is_row_a p
-
 -- a pack stands at a row of file A
 abbrev pub pack_marks : Option Place → Option Suffix → List Mark → List Mark
 pack_marks to None ms = ms
@@ -126,20 +96,11 @@ abbrev pub somewhere : Core → Option Place
 somewhere (core.Name n) = target_meant n
 somewhere _ = None
 
--- what a branch links to: rows, r0 to r3 and `-`
-abbrev pub if_link : Option Place → Option Place
-if_link None = None
-if_link (Some p) = if is_link_address (address_of p) then Some p else None
-
 -- operands
 
 -- what the mul unit doesn't rotate
 abbrev pub fixed : Bool → Token → List Mark → List Mark
 fixed mul token ms = mark_if mul what.Fixed token ms
-
-abbrev pub unpack_name : Option Name → Option ℕ
-unpack_name None = None
-unpack_name (Some n) = unpack_of n
 
 abbrev pub unpack_mark : ℕ → Token → Option ℕ → List Mark → List Mark
 unpack_mark row dot None ms = mark what.Wrong dot ms

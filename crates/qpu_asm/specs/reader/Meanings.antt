@@ -32,7 +32,8 @@ use Rattle.qpu_asm.specs.declared.part.Part.{Part}
 use Rattle.qpu_asm.specs.declared.part.Part.TheVariants as part
 use Rattle.qpu_asm.specs.Roles.{op_in_add, op_in_mul, pack_of}
 use Rattle.qpu_asm.specs.SpelledPieces.{is_nowhere, way}
-use Rattle.qpu_asm.specs.reader.Marks.{code_of, target_place, source_in, unpack_name, is_set_flags, is_r5}
+use Rattle.qpu_asm.specs.Roles.{code_of, unpack_name, is_set_flags}
+use Rattle.qpu_asm.specs.reader.Marks.{target_place, source_in, is_r5}
 
 -- suffixes
 

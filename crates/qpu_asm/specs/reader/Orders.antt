@@ -9,23 +9,7 @@ use Rattle.qpu_asm.specs.declared.part.BranchPart.{BranchPart}
 use Rattle.qpu_asm.specs.declared.part.Part.{Part}
 use Rattle.qpu_asm.specs.declared.part.Part.TheVariants as part
 use Rattle.qpu_asm.specs.Roles.{op_in_mul}
-
--- what a line may begin with. Names of both units are the add unit's there, and those of the mul unit
--- alone don't stand there
-abbrev pub begins : Name → Bool
-begins (name.Add op) = true
-begins name.Mov = true
-begins name.Nop = true
-begins (name.Load kind) = true
-begins name.Increment = true
-begins name.Decrement = true
-begins name.Branch = true
-begins name.RelativeBranch = true
-begins _ = false
-
-abbrev pub is_nop : Name → Bool
-is_nop name.Nop = true
-is_nop _ = false
+use Rattle.qpu_asm.specs.Forms.{begins, is_nop}
 
 -- kinds of parts
 

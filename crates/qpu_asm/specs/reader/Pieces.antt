@@ -1,5 +1,5 @@
 -- The pieces of a part: targets, operands, numbers and labels. This project's own.
-use Rattle.std.specs.Prelude.{ℕ, ◌%◌, ◌^◌, ◌==◌, ◌&&◌, ◌||◌, Bool, true, false, List, [], ◌∷◌, map, drop, Option, Some, None, Result, Ok, Err, if◌then◌else◌}
+use Rattle.std.specs.Prelude.{ℕ, ◌%◌, ◌^◌, ◌==◌, ◌&&◌, List, [], ◌∷◌, drop, Option, Some, None, Result, Ok, Err, if◌then◌else◌}
 use Rattle.qpu_token.specs.declared.token.Token.{Token}
 use Rattle.qpu_line.specs.declared.name.Name.{Name}
 use Rattle.qpu_line.specs.declared.symbol.Symbol.{Symbol}
@@ -9,23 +9,8 @@ use Rattle.qpu_asm.specs.declared.piece.Core.{Core}
 use Rattle.qpu_asm.specs.declared.piece.Core.TheVariants as core
 use Rattle.qpu_asm.specs.declared.piece.Suffix.{Suffix}
 use Rattle.qpu_asm.specs.declared.piece.Piece.{Piece}
-use Rattle.qpu_asm.specs.Spells.{is_colon}
+use Rattle.qpu_asm.specs.Signs.{is_comma, is_dot, is_minus, is_colon, stops, has_dot, length_of}
 use Rattle.qpu_asm.specs.reader.Reading.{Read, go_on}
-use Rattle.qpu_asm.specs.reader.Expressions.{expression_length}
-
--- signs
-
-abbrev pub is_comma : Symbol → Bool
-is_comma symbol.Comma = true
-is_comma _ = false
-
-abbrev pub is_dot : Symbol → Bool
-is_dot symbol.Dot = true
-is_dot _ = false
-
-abbrev pub is_minus : Symbol → Bool
-is_minus symbol.Minus = true
-is_minus _ = false
 
 -- names, of the language or not
 abbrev pub named : Symbol → Option (Option Name)
@@ -50,11 +35,6 @@ suffix_at (x ∷ rest) = if is_dot x.symbol then suffix_behind x.token rest else
 
 -- cores
 
--- a target ends at the end of its part, at a comma or at a suffix
-abbrev pub stops : List Placed → Bool
-stops [] = true
-stops (x ∷ rest) = is_comma x.symbol || is_dot x.symbol
-
 -- names and numbers that are a piece by themselves
 abbrev pub alone : Symbol → Option Core
 alone (symbol.Name n) = Some (core.Name n)
@@ -69,10 +49,6 @@ name_alone _ = None
 
 abbrev pub bare : Core → Token → Piece
 bare c token = record { core = c; token = token; suffix = None }
-
--- how many tokens are an expression
-abbrev pub length_of : List Placed → Option ℕ
-length_of xs = expression_length (map (λ x. x.symbol) xs)
 
 abbrev pub target_of_length : Placed → List Placed → Option Core → Option ℕ → Read Piece
 target_of_length x rest None n = Err x.token
@@ -110,11 +86,6 @@ label_core end (x ∷ rest) = label_by x rest (name_alone x.symbol)
 unfoldable pub jump_core : Token → List Placed → Read Piece
 jump_core end [] = value_core end []
 jump_core end (x ∷ rest) = if is_colon x.symbol then label_core end rest else value_core end (x ∷ rest)
-
--- whether a suffix stands at the front
-abbrev pub has_dot : List Placed → Bool
-has_dot [] = false
-has_dot (x ∷ rest) = is_dot x.symbol
 
 -- an operand of a unit: `-` with a suffix is the name of a target, which no operand is; alone it begins an
 -- expression that can't be completed

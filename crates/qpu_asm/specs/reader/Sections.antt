@@ -1,5 +1,5 @@
 -- The sections of a line, between its signs `;`, and the parts that they are. This project's own.
-use Rattle.std.specs.Prelude.{Bool, true, false, List, [], ◌∷◌, ◌++◌, fold, Option, Some, None, is_some, Result, Ok, Err, if◌then◌else◌}
+use Rattle.std.specs.Prelude.{List, [], ◌∷◌, ◌++◌, fold, Option, Some, None, is_some, Result, Ok, Err, if◌then◌else◌}
 use Rattle.std.specs.Option.{option_or}
 use Rattle.qpu_token.specs.declared.token.Token.{Token}
 use Rattle.qpu_line.specs.declared.symbol.Symbol.{Symbol}
@@ -10,13 +10,10 @@ use Rattle.qpu_asm.specs.Roles.{is_mnemonic}
 use Rattle.qpu_asm.specs.reader.Reading.{go_on}
 use Rattle.qpu_asm.specs.reader.Parts.{part_by}
 use Rattle.qpu_asm.specs.reader.Orders.{due}
-use Rattle.qpu_asm.specs.reader.SectionTokens.{SectionTokens}
+use Rattle.qpu_asm.specs.Signs.{is_semicolon}
+use Rattle.qpu_asm.specs.SectionTokens.{SectionTokens}
 
 -- sections
-
-abbrev pub is_semicolon : Symbol → Bool
-is_semicolon symbol.Semicolon = true
-is_semicolon _ = false
 
 -- sections that are read, and the tokens of the next one
 pub record Cutting : Type 0 where

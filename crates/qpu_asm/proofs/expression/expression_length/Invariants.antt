@@ -1,6 +1,6 @@
 use Rattle.std.proofs.Common.{◌≡◌, ◌+◌, ◌≤◌, drop}
 use Rattle.std.specs.Prelude.{map, option_map}
-use Rattle.qpu_asm.specs.reader.Expressions.{length_from, expression_length}
+use Rattle.qpu_asm.specs.Expressions.{length_from, expression_length}
 use Rattle.qpu_asm.proofs.expression.expression_length.Given as goal
 
 abbrev pub invariant-loop-i : goal.invariant-loop-i
